@@ -1,0 +1,15 @@
+pub mod Layout
+pub mod Refusal
+pub mod Bytes
+pub mod Signed
+pub mod RelPtr
+pub mod Align
+pub mod Key
+pub mod Node
+pub mod Check
+pub mod Entries
+pub mod Reachable
+pub mod Certify
+pub mod Lookup
+pub mod Range
+pub mod Written
