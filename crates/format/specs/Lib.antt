@@ -13,3 +13,4 @@ pub mod Certify
 pub mod Lookup
 pub mod Range
 pub mod Written
+pub mod Laws
