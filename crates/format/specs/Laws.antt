@@ -3,3 +3,13 @@ pub mod Signed
 pub mod RelPtr
 pub mod Align
 pub mod Key
+pub mod Valid
+pub mod Sound
+pub mod Complete
+pub mod Reach
+pub mod Count
+pub mod Ascend
+pub mod Lookup
+pub mod Archive
+pub mod Certify
+pub mod Refusals
