@@ -13,4 +13,5 @@ pub mod Certify
 pub mod Lookup
 pub mod Range
 pub mod Written
+pub mod RangeIter
 pub mod Laws

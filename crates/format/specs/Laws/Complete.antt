@@ -1,7 +1,8 @@
--- The check accepts what is valid, and the list does not depend on the fuel from the depth on. Assumes nothing.
+-- The check accepts exactly the nodes of the relation, and the list does not depend on the fuel from the depth on. Assumes nothing.
 use Prim.Native.Nat.{ℕ, zero, suc, _+_, _%_, _≤_}
 use mathlib.Core.Path.{_≡_, refl, sym, ap, _∙_}
 use mathlib.Core.Bool.{Bool, true, false}
+use mathlib.Core.Logic.{_↔_}
 use mathlib.Core.List.{List, [], _∷_, _++_}
 use native.Mathlib.Omega.{arith}
 use lib.Dec.{leb, eqb}
@@ -13,6 +14,7 @@ use Rattle.format.specs.Node.{Kind, leaf, inner, other, kind, sizeAt}
 use Rattle.format.specs.Check.{Checked, accepted, guard, checkChild, checkChildren, checkBody, enter, checkAt, checkNode}
 use Rattle.format.specs.Entries.{listChild, listChildren, listBody, listAt}
 use Rattle.format.specs.Reachable.{Inside}
+use Rattle.format.specs.Laws.Sound.{Leads, sound}
 use Rattle.format.specs.Laws.Valid.{ChildOk, gone, there, ChildrenOk, last, more, NodeOk, leafOk, innerOk, Holds, Valid}
 
 pub pass : {b : Bool} → b ≡ true → (r : ℕ) (a : Checked) → guard b r a ≡ a
@@ -72,6 +74,13 @@ module _ (L : Layout) (s : List ℕ) where
 
   pub complete : {d lo hi p n : ℕ} → Valid L s d lo hi p n → (f : ℕ) → target L s f ≡ at p → checkNode L s d hi lo f ≡ accepted n (p + sizeAt L s p)
   complete {d} v f el = holds-accepted d _ _ _ _ _ el (v .holds)
+
+  -- The check accepts exactly when the node relation holds where the field leads.
+  pub accepts-exactly : (d hi lo f n t : ℕ) → (checkNode L s d hi lo f ≡ accepted n t) ↔ Leads L s (Holds L s d) lo hi f n t
+  accepts-exactly d hi lo f n t =
+      (sound L s d hi lo f n t, λ l. holds-accepted d lo hi f (l .pos) n (l .leads) (l .node) ∙ ap (accepted n) (sym (l .next)))
+
+  -- ---- the list does not depend on the fuel
 
   module _ (N : ℕ → ℕ → ℕ → ℕ → Type 0) (give give′ : ℕ → List Entry)
       (ih : (lo hi p n : ℕ) → N lo hi p n → give p ≡ give′ p) where
