@@ -14,4 +14,7 @@ pub mod Lookup
 pub mod Range
 pub mod Written
 pub mod RangeIter
+pub mod Tree
+pub mod Build
+pub mod Cases
 pub mod Laws
