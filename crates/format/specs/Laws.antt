@@ -13,3 +13,6 @@ pub mod Lookup
 pub mod Archive
 pub mod Certify
 pub mod Refusals
+pub mod Stands
+pub mod Trees
+pub mod Laid
