@@ -16,3 +16,5 @@ pub mod Refusals
 pub mod Stands
 pub mod Trees
 pub mod Laid
+pub mod Filling
+pub mod Height
