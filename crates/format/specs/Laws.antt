@@ -18,3 +18,5 @@ pub mod Trees
 pub mod Laid
 pub mod Filling
 pub mod Height
+pub mod Built
+pub mod Built32

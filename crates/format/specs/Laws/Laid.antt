@@ -90,7 +90,7 @@ module _ (L : Layout) where
     length-writeBranches (lastB k) b w = length-writeBranch k b w
     length-writeBranches (moreB k e ks) b w = simp length-append (omega (arith, length-writeBranch k b (w .0), length-writeBranches ks (b + lengthBranch L k) (w .2)))
 
-    length-writeBranch : (k : Branch) (b : ℕ) → WfBranch L k → length (writeBranch L k b) ≡ lengthBranch L k
+    pub length-writeBranch : (k : Branch) (b : ℕ) → WfBranch L k → length (writeBranch L k b) ≡ lengthBranch L k
     length-writeBranch noneB b w = refl
     length-writeBranch (someB t) b w = length-writeT t b w
 
