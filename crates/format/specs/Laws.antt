@@ -13,6 +13,9 @@ pub mod Lookup
 pub mod Archive
 pub mod Certify
 pub mod Refusals
+pub mod RangeList
+pub mod RangeStack
+pub mod RangeIter
 pub mod Stands
 pub mod Trees
 pub mod Laid

@@ -16,5 +16,6 @@ pub mod Written
 pub mod RangeIter
 pub mod Tree
 pub mod Build
+pub mod Serialize
 pub mod Cases
 pub mod Laws
