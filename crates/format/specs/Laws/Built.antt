@@ -26,7 +26,7 @@ use Rattle.format.specs.Laws.Align.{step-aligned}
 use Rattle.format.specs.Laws.Bytes.{length-leBytes}
 use Rattle.format.specs.Laws.Certify.{certified}
 use Rattle.format.specs.Laws.Complete.{pass, complete}
-use Rattle.format.specs.Laws.Filling.{fill-flat, upper, room, BranchDone, fill-done, fill-depth}
+use Rattle.format.specs.Laws.Filling.{fill-flat, upper, room, fill-took, BranchDone, fill-done, fill-depth}
 use Rattle.format.specs.Laws.Height.{Fitting, fitting}
 use Rattle.format.specs.Laws.Laid.{length-writeBranch, eightT, top-in, tree-laid}
 use Rattle.format.specs.Laws.Stands.{Stands, stands-here, stands-end, stands-as, read-back, wide, offset-back}
@@ -237,7 +237,7 @@ nil-of (x ∷ l) e = absurd (omega arith)
 pub record TreeOf (L : Layout) (es : List Pair) : Type 0 where
   pub some : 0 < L .entries
   pub fit : Fitting L some (length es)
-  pub done : BranchDone L (fit .above) (upper L (fit .above)) (room L (fit .above)) (lastLevel L (length es)) es (fill L (fit .above) (lastLevel L (length es)) es)
+  pub done : BranchDone L (fit .above) (upper L (fit .above)) (room L (fit .above)) (lastLevel L (length es)) (fill L (fit .above) (lastLevel L (length es)) es)
   pub is : treeOf L es ≡ fill L (fit .above) (lastLevel L (length es)) es .branch
 
 module _ (L : Layout) where
@@ -257,14 +257,17 @@ module _ (L : Layout) where
         is = tree-is e es (F .above) (F .height-is);
       }
 
-  pub none-left : {es : List Pair} (T : TreeOf L es) → fill L (T .fit .above) (lastLevel L (length es)) es .rest ≡ []
-  none-left {es} T = nil-of _ (omega (arith, T .done .left, T .fit .last-is, T .fit .last-room))
+  -- No entry is left.
+  pub none-left : {some : 0 < L .entries} (es : List Pair) (F : Fitting L some (length es)) → fill L (F .above) (lastLevel L (length es)) es .rest ≡ []
+  none-left es F =
+      let t = fill-took L (F .above) (lastLevel L (length es)) es (omega (arith, F .last-is, F .last-room)) in
+      nil-of _ (omega (arith, t .left, F .last-is, F .last-room))
 
   tree-flat : {es : List Pair} (T : TreeOf L es) → flatBranch (treeOf L es) ≡ es
   tree-flat {es} T =
       let m = lastLevel L (length es) in
       let h = T .fit .above in
-      ap flatBranch (T .is) ∙ sym (append-nil (flatBranch (fill L h m es .branch))) ∙ ap (λ (l : List Pair). flatBranch (fill L h m es .branch) ++ l) (sym (none-left T)) ∙ fill-flat L h m es
+      ap flatBranch (T .is) ∙ sym (append-nil (flatBranch (fill L h m es .branch))) ∙ ap (λ (l : List Pair). flatBranch (fill L h m es .branch) ++ l) (sym (none-left es (T .fit))) ∙ fill-flat L h m es
 
   pub tree-wf : {es : List Pair} (T : TreeOf L es) → WfBranch L (treeOf L es) × There (treeOf L es)
   tree-wf {es} T =
