@@ -1,0 +1,24 @@
+-- `perimetry::column::column_bounds` meets its contract. Assumes nothing.
+use mathlib.Core.Logic.{⊎-elim}
+use mathlib.Core.Path.{sym}
+use mir.Facts.{toZ-ofZ}
+use borrow.Author.Needs.{needs}
+use Rattle.perimetry.proofs.Columns.{column-no-exam, column-no-eye, column-given}
+use Rattle.perimetry.proofs.column.column_bounds.Statement.{statement}
+use Rattle.perimetry.proofs.column.column_bounds.Tie as tie
+
+ruleset laws = (needs, column-no-exam, column-no-eye)
+
+returns : tie.Need-returns
+returns c = ⊎-elim (λ t. search laws) (λ t. search laws) (c .if1 .came)
+
+returns-2 : tie.Need-returns-2
+returns-2 c =
+    let s = c .before .before .before .before .before .before in
+    sym (column-given _ _ (s .args .a) (s .args .b) _ _ (search needs) (search needs)
+    (rw (c .before .before .key-of .ensures, c .before .before .before .bits8 .ensures, toZ-ofZ (s .fits .a)))
+    (rw (c .key-of2 .ensures, c .before .bits82 .ensures, toZ-ofZ (s .fits .b))))
+
+pub column-bounds-spec : {M : Type 1} → statement M
+column-bounds-spec =
+    tie.close (tie.spec returns (search needs) (λ c κs. search needs) (search needs) (search needs) (λ c κs. search needs) returns-2)
