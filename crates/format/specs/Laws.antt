@@ -23,3 +23,5 @@ pub mod Filling
 pub mod Height
 pub mod Built
 pub mod Built32
+pub mod Turns
+pub mod Streaming
