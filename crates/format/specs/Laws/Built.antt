@@ -241,7 +241,7 @@ pub record TreeOf (L : Layout) (es : List Pair) : Type 0 where
   pub is : treeOf L es ≡ fill L (fit .above) (lastLevel L (length es)) es .branch
 
 module _ (L : Layout) where
-  tree-is : (e : Pair) (es : List Pair) (h : ℕ) → height L (length (e ∷ es)) ≡ suc h → treeOf L (e ∷ es) ≡ fill L h (lastLevel L (length (e ∷ es))) (e ∷ es) .branch
+  pub tree-is : (e : Pair) (es : List Pair) (h : ℕ) → height L (length (e ∷ es)) ≡ suc h → treeOf L (e ∷ es) ≡ fill L h (lastLevel L (length (e ∷ es))) (e ∷ es) .branch
   unfolding treeOf
   tree-is e es h eh =
       let e₁ : height L (length (e ∷ es)) - 1 ≡ h = omega arith in

@@ -1,20 +1,26 @@
 -- The streaming definition of the builder and the tree agree, over every layout and for every list of one entry or more. Assumes nothing.
-use mathlib.Core.Path.{_≡_, refl, sym, ap, _∙_, subst}
+use mathlib.Core.Path.{_≡_, refl, sym, ap, ap₂, _∙_, subst}
 use mathlib.Core.Bool.{Bool, true, false}
 use mathlib.Core.List.{List, [], _∷_, _++_, append-assoc, append-nil}
 use Prim.Native.Nat.{ℕ, zero, suc, _+_, _-_, _*_, _≤_, _<_, min}
 use native.Mathlib.Omega.{arith}
 use native.Mathlib.Nat.{add-zero, add-suc, zero-add, suc-add, not-suc-le-zero}
 use native.Mathlib.Decide.{decLt}
-use lib.ListN.{length, getD, take, drop, replicate, length-append}
+use lib.ListN.{length, getD, take, drop, replicate, length-append, length-drop}
 use lib.Seq.{take-suc, drop-cons, length-take-le}
+use Rattle.format.specs.declared.Child.{Child}
 use Rattle.format.specs.declared.Child.the-variants.{At, Absent}
-use Rattle.format.specs.Layout.{Layout, innerSize}
-use Rattle.format.specs.Tree.{Pair, Slot, slotOf, innerBytes, lastB, moreB, Branch, lengthBranches, lengthBranch, childOf, slotsOf, greaterOf, writeBranches, writeBranch}
-use Rattle.format.specs.Build.{Filled, FilledBranches, closed, fillNext, fillBranches, fillLeaf, fill}
-use Rattle.format.specs.Serialize.{State, withInners, closeLeaf, grow, climb, Taken, takeEntries, transit, pushLeaf, turn}
-use Rattle.format.specs.Laws.Filling.{Took}
-use Rattle.format.specs.Laws.Turns.{climb-close, climb-grow, turn-put, turn-close, turn-end, climb-stack, TurnsTo, leads-refl, leads-then, leads-turn, leads-to}
+use Rattle.format.specs.Layout.{Layout, innerSize, nodeAlign}
+use Rattle.format.specs.Align.{zerosTo}
+use Rattle.format.specs.Check.{root}
+use Rattle.format.specs.Tree.{Pair, Slot, slotOf, innerBytes, lastB, moreB, Branch, noneB, someB, lengthBranches, lengthBranch, childOf, slotsOf, greaterOf, writeBranches, writeBranch}
+use Rattle.format.specs.Build.{Filled, FilledBranches, closed, fillNext, fillBranches, fillLeaf, fill, height, lastLevel, treeOf, recordBytes, behind, archive}
+use Rattle.format.specs.Serialize.{State, withInners, closeLeaf, grow, climb, Taken, takeEntries, transit, pushLeaf, turn, run, closeLast, closeInners, serialize, streamed}
+use Rattle.format.specs.Laws.Built.{tree-is, none-left}
+use Rattle.format.specs.Laws.Filling.{upper, room, Took, fill-took}
+use Rattle.format.specs.Laws.Height.{fitting}
+use Rattle.format.specs.Laws.Trees.{There}
+use Rattle.format.specs.Laws.Turns.{climb-close, climb-grow, turn-put, turn-close, turn-end, climb-stack, TurnsTo, leads-refl, leads-then, leads-turn, leads-to, run-all}
 
 -- One level more is open while the last level takes entries.
 abbrev sg : ℕ → ℕ
@@ -349,9 +355,6 @@ module _ (L : Layout) where
   ends-zero some S n ll c zero es p bs pos e h size = absurd (not-suc-le-zero pos)
   ends-zero some S n ll c (suc j) es p bs pos e h size = go (decLt (L .entries) (suc j))
     where
-      small : Filled → Taken L
-      small r = record { node = n ++ []; childPos = childOf L (r .branch) p; iter = r .rest }
-
       go : Dec (L .entries < suc j) → EndsBy 0 S n ll c es p bs (lastOf (fill L 0 (suc j) es))
       go (yes b) =
           let r = fillLeaf L (L .entries) (suc j - L .entries) es in
@@ -378,3 +381,172 @@ module _ (L : Layout) where
         where
           taken : Filled → List Slot → Taken L
           taken r x = record { node = x; childPos = childOf L (r .branch) p; iter = r .rest }
+
+  -- The first child is a full leaf, and the last level goes on.
+  next-big : 0 < L .entries → (k : ℕ) → Ends k → (S : List (List Slot)) (n : List Slot) (ll c m : ℕ) (es : List Pair) (p : ℕ) (bs : List ℕ) → L .entries < m → c + m ≡ ll
+      → length n + suc k ≡ L .entries → suc k + min m (suc (suc k) * L .entries) ≤ length es → (xs : List Pair) → drop (L .entries) es ≡ xs
+      → EndsBy (suc k) S n ll c es p bs (fillNext (fillBranches (fill L 0) k) (fillLeaf L (L .entries) (m - L .entries) es) xs)
+  unfolding Ends EndsBy
+  next-big some k ih S n ll c m es p bs b e h size [] x = absurd (omega (arith, length-drop (L .entries) es, ap length x))
+  next-big some k ih S n ll c m es p bs b e h size (y ∷ xs) x =
+      let r = fillLeaf L (L .entries) (m - L .entries) es in
+      let n′ = n ++ (slotOf y (childOf L (r .branch) p) ∷ []) in
+      let p′ = p + lengthBranch L (r .branch) in
+      let bs′ = bs ++ writeBranch L (r .branch) p in
+      let R = fillBranches (fill L 0) k (m - L .entries) xs in
+      let ln : length n′ ≡ length n + 1 = length-append n (slotOf y (childOf L (r .branch) p) ∷ []) in
+      let ld = length-drop (L .entries) es in
+      let lx = ap length x in
+      let d = ih S n′ ll (c + L .entries) (m - L .entries) xs p′ bs′ (omega arith) (omega arith) (omega arith) (omega arith) in
+      record {
+        count = d .count;
+        left = d .left;
+        leads = leads-then L ll (ready (n ∷ S) 0 c es p bs) (ready (n′ ∷ S) 0 (c + L .entries) xs p′ bs′) (climb L S (sg (R .last)) (shut (d .count) n (moreOf (r .branch) y R) p bs))
+            (leads-to L ll (ready (n ∷ S) 0 c es p bs) (climb L (n ∷ S) 0 (done (c + L .entries) r p bs)) (ready (n′ ∷ S) 0 (c + L .entries) xs p′ bs′)
+            (leaf-full some (n ∷ S) ll c es p bs (m - L .entries) (omega arith) (λ i l z. omega arith)) (grown S n 0 (c + L .entries) r p bs y xs (λ z. omega arith) x))
+            (leads-to L ll (ready (n′ ∷ S) 0 (c + L .entries) xs p′ bs′) (climb L S (sg (R .last)) (shut (d .count) n′ R p′ bs′)) (climb L S (sg (R .last)) (shut (d .count) n (moreOf (r .branch) y R) p bs))
+            (d .leads) (ap (climb L S (sg (R .last))) (shifting (d .count) n (r .branch) y R p bs)));
+      }
+
+  -- The first child is the leaf that ends the last level.
+  next-small : (k : ℕ) (S : List (List Slot)) (n : List Slot) (ll c j : ℕ) (es : List Pair) (p : ℕ) (bs : List ℕ) → j < L .entries → c + suc j ≡ ll
+      → length n + suc k ≡ L .entries → suc k + suc j ≤ length es → (xs : List Pair) → drop (suc j) es ≡ xs
+      → EndsBy (suc k) S n ll c es p bs (fillNext (fillBranches (fill L 0) k) (fillLeaf L (suc j) 0 es) xs)
+  unfolding EndsBy takeEntries
+  next-small k S n ll c j es p bs b e h size [] x = absurd (omega (arith, length-drop (suc j) es, ap length x))
+  next-small k S n ll c j es p bs b e h size (y ∷ xs) x =
+      let r = fillLeaf L (suc j) 0 es in
+      let s = slotOf y (childOf L (r .branch) p) in
+      let p′ = p + lengthBranch L (r .branch) in
+      let ld = length-drop (suc j) es in
+      let lx = ap length x in
+      let B = bare k (n ++ (s ∷ [])) xs p′ (omega arith) in
+      let R = bareOf k xs in
+      let ek : L .entries - length n ≡ suc k = omega arith in
+      record {
+        count = ll;
+        left = subst (λ (i : ℕ). Left ll ll i) (sym (B .last)) (omega arith);
+        leads = leads-to L ll (ready (n ∷ S) 0 c es p bs) _ (climb L S (sg (R .last)) (shut ll n (moreOf (r .branch) y R) p bs)) (leaf-last (n ∷ S) ll c j es p bs b (omega arith) e)
+            (transit-shut S n r (moreOf (r .branch) y R) ll p bs
+            (ap (λ (i : ℕ). takeEntries L i n (childOf L (r .branch) p) (r .rest)) ek ∙ ap (λ (l : List Pair). takeEntries L (suc k) n (childOf L (r .branch) p) l) x
+            ∙ B .takes ∙ ap (λ (l : List Slot). taken R p′ l) (append-assoc n (s ∷ []) (slotsOf L (R .branches) p′)))
+            (ap (λ (l : List ℕ). writeBranch L (r .branch) p ++ l) (B .bytes) ∙ append-nil (writeBranch L (r .branch) p)) (omega (arith, B .size))
+            ∙ ap (λ (i : ℕ). climb L S (sg i) (shut ll n (moreOf (r .branch) y R) p bs)) (sym (B .last)));
+      }
+    where
+      taken : FilledBranches → ℕ → List Slot → Taken L
+      taken R i l = record { node = l; childPos = greaterOf L (R .branches) i; iter = R .rest }
+
+  ends-more : 0 < L .entries → (k : ℕ) → Ends k → Ends (suc k)
+  unfolding Ends EndsBy
+  ends-more some k ih S n ll c zero es p bs pos e h size = absurd (not-suc-le-zero pos)
+  ends-more some k ih S n ll c (suc j) es p bs pos e h size = go (decLt (L .entries) (suc j))
+    where
+      by : (r : Filled) → fill L 0 (suc j) es ≡ r → EndsBy (suc k) S n ll c es p bs (fillNext (fillBranches (fill L 0) k) r (r .rest))
+          → EndsBy (suc k) S n ll c es p bs (fillBranches (fill L 0) (suc k) (suc j) es)
+      by r x d = subst (λ (y : Filled). EndsBy (suc k) S n ll c es p bs (fillNext (fillBranches (fill L 0) k) y (y .rest))) (sym x) d
+
+      go : Dec (L .entries < suc j) → EndsBy (suc k) S n ll c es p bs (fillBranches (fill L 0) (suc k) (suc j) es)
+      go (yes b) =
+          by (fillLeaf L (L .entries) (suc j - L .entries) es) (last-big (suc j) es b) (next-big some k ih S n ll c (suc j) es p bs b e h size (drop (L .entries) es) refl)
+      go (no b) =
+          by (fillLeaf L (suc j) 0 es) (last-small j es (omega arith)) (next-small k S n ll c j es p bs (omega arith) e h (omega arith) (drop (suc j) es) refl)
+
+  ends-all : 0 < L .entries → (k : ℕ) → Ends k
+  ends-all some zero = ends-zero some
+  ends-all some (suc k) = ends-more some k (ends-all some k)
+
+  -- ---- the tree, level by level
+
+  low-writes : 0 < L .entries → Writes (fill L 1) (upper L 1) (room L 1) 0
+  unfolding Writes fill Ends
+  low-writes some S ll c zero es p bs lf size =
+      record { count = c + L .entries; left = omega arith; leads = leaf-full some S ll c es p bs 0 (omega arith) (λ i h e. omega arith) }
+  low-writes some S ll c (suc m) es p bs lf size =
+      let R = fillBranches (fill L 0) (L .entries) (suc m) es in
+      comes-to ll (ready S 1 c es p bs) (λ c′. climb L S (sg (R .last)) (shut c′ [] R p bs)) (λ c′. climb L S (0 + sg (R .last)) (done c′ (closed R) p bs)) (R .last)
+      (λ c′. ap (climb L S (sg (R .last))) (shut-done c′ R p bs) ∙ ap (λ (i : ℕ). climb L S i (done c′ (closed R) p bs)) (sym (zero-add (sg (R .last)))))
+      (ends-all some (L .entries) S [] ll c (suc m) es p bs (omega arith) lf (omega arith) (omega arith))
+
+  tree-writes : 0 < L .entries → (l : ℕ) → Writes (fill L (suc l)) (upper L (suc l)) (room L (suc l)) l
+  unfolding fill Writes
+  tree-writes some zero = low-writes some
+  tree-writes some (suc l) = inner-writes (fill L (suc l)) (upper L (suc l)) (room L (suc l)) l (fill-took L (suc l)) (tree-writes some l)
+
+  -- The whole loop, where the levels fit the entries.
+  loop : 0 < L .entries → (h m : ℕ) (es : List Pair) (p : ℕ) → 0 < m → m ≤ room L h → upper L h + m ≡ length es → (c : ℕ) × TurnsTo L m (ready [] h 0 es p []) (done c (fill L h m es) p [])
+  unfolding climb transit Writes
+  loop some zero zero es p pos fits e = absurd (not-suc-le-zero pos)
+  loop some zero (suc j) es p pos fits e =
+      (suc j, subst (λ (r : Filled). TurnsTo L (suc j) (ready [] 0 0 es p []) (done (suc j) r p [])) (sym (last-small j es (omega arith))) (leaf-last [] (suc j) 0 j es p [] (omega arith) (omega arith) (omega arith)))
+  loop some (suc l) m es p pos fits e =
+      let a = tree-writes some l [] m 0 m es p [] (left-pos m 0 m pos (zero-add m)) (omega arith) in
+      let el : l + sg m ≡ suc l = ap (λ (i : ℕ). l + i) (sg-pos m pos) ∙ omega arith in
+      (a .count, subst (λ (i : ℕ). TurnsTo L m (ready [] i 0 es p []) (done (a .count) (fill L (suc l) m es) p [])) el (a .leads))
+
+  fill-there : (h m : ℕ) (es : List Pair) → 0 < m → There (fill L h m es .branch)
+  unfolding fill
+  fill-there zero zero es pos = absurd (not-suc-le-zero pos)
+  fill-there zero (suc m) es pos = tt
+  fill-there (suc zero) zero es pos = tt
+  fill-there (suc zero) (suc m) es pos = tt
+  fill-there (suc (suc h)) m es pos = tt
+
+-- What the streaming builder leaves: the tree's bytes, its own node as the root, nothing open, no entry left, and no `unwrap` of nothing.
+pub record Agrees (L : Layout) (t : State) (b : Branch) (p : ℕ) : Type 0 where
+  pub bytes : t .bytes ≡ writeBranch L b p
+  pub pos : t .pos ≡ p + lengthBranch L b
+  pub root : t .childPos ≡ childOf L b p
+  pub iter : t .iter ≡ []
+  pub leaf : t .openLeaf ≡ []
+  pub inners : t .openInners ≡ []
+  pub panics : t .panics ≡ false
+
+module _ (L : Layout) (some : 0 < L .entries) where
+  finished : (c : ℕ) (r : Filled) (p : ℕ) (t : State) → r .rest ≡ [] → t ≡ done L c r p [] → let u = closeLast L (t .openLeaf) t in Agrees L (closeInners L (u .openInners) u) (r .branch) p
+  unfolding closeInners
+  finished c r p t e x =
+      subst (λ (y : State). let u = closeLast L (y .openLeaf) y in Agrees L (closeInners L (u .openInners) u) (r .branch) p) (sym x)
+      (record { bytes = refl; pos = refl; root = refl; iter = e; leaf = refl; inners = refl; panics = refl })
+
+  -- The streaming definition and the tree agree.
+  pub serialize-agrees : (e : Pair) (es : List Pair) (p : ℕ) → Agrees L (serialize L (e ∷ es) p) (treeOf L (e ∷ es)) p
+  unfolding serialize
+  serialize-agrees e es p =
+      let all = e ∷ es in
+      let F = fitting L some (length all) (omega arith) in
+      let h = F .above in
+      let m = lastLevel L (length all) in
+      let eh : height L (length all) - 1 ≡ h = omega (arith, F .height-is) in
+      let (c, l) = loop L some h m all p (F .last-pos) (F .last-room) (F .last-is) in
+      let none = none-left L all F in
+      let start₁ : State = record { openLeaf = []; openInners = replicate (height L (length all) - 1) []; childPos = Absent; leafEntries = 0; iter = all; pos = p; bytes = []; panics = false } in
+      let es₁ : ready L [] h 0 all p [] ≡ start₁ =
+      ap (λ (x : List (List Slot)). record′ p x) (append-nil (replicate h []) ∙ ap (λ (i : ℕ). replicate i []) (sym eh)) in
+      let x : run L (length all) m start₁ ≡ done L c (fill L h m all) p [] =
+      ap (run L (length all) m) (sym es₁) ∙ run-all L m (ready L [] h 0 all p []) (done L c (fill L h m all) p []) (length all) l none (omega arith) in
+      subst (λ (b : Branch). Agrees L (serialize L all p) b p) (sym (tree-is L e es h (F .height-is))) (finished c (fill L h m all) p (run L (length all) m start₁) none x)
+    where
+      record′ : ℕ → List (List Slot) → State
+      record′ p x = record { openLeaf = []; openInners = x; childPos = Absent; leafEntries = 0; iter = e ∷ es; pos = p; bytes = []; panics = false }
+
+  tree-there : (e : Pair) (es : List Pair) → There (treeOf L (e ∷ es))
+  tree-there e es =
+      let F = fitting L some (length (e ∷ es)) (omega arith) in
+      subst There (sym (tree-is L e es (F .above) (F .height-is))) (fill-there L (F .above) (lastLevel L (length (e ∷ es))) (e ∷ es) (F .last-pos))
+
+  archive-as : (header : List ℕ) (n : ℕ) (b : Branch) (t : State) → There b → Agrees L t b (length header + zerosTo nodeAlign (length header))
+      → header ++ (replicate (zerosTo nodeAlign (length header)) 0 ++ (t .bytes ++ recordBytes L (t .pos) (t .childPos) n)) ≡ header ++ behind L (length header) b n
+  unfolding behind
+  archive-as header n noneB t th A = absurd th
+  archive-as header n (someB x) t th A =
+      let z = zerosTo nodeAlign (length header) in
+      ap (λ (l : List ℕ). header ++ (replicate z 0 ++ l)) (ap₂ (λ (w r : List ℕ). w ++ r) (A .bytes) (ap₂ (λ (i : ℕ) (c : Child). recordBytes L i c n) (A .pos) (A .root)))
+
+  -- The two archives are the same bytes.
+  pub streamed-archive : (header : List ℕ) (es : List Pair) → streamed L header es ≡ archive L header es
+  unfolding streamed archive treeOf
+  streamed-archive header [] = refl
+  streamed-archive header (e ∷ es) =
+      let p = length header + zerosTo nodeAlign (length header) in
+      archive-as header (length (e ∷ es)) (treeOf L (e ∷ es)) (serialize L (e ∷ es) p) (tree-there e es) (serialize-agrees e es p)
