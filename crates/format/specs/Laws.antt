@@ -25,3 +25,4 @@ pub mod Built
 pub mod Built32
 pub mod Turns
 pub mod Streaming
+pub mod Depth

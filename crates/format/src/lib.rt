@@ -102,5 +102,4 @@ fn constants()
     ensures record_aligns { λ _. do ⌜ (← ⟦Layout::RECORD_ALIGN⟧ .entry) ≡ recordAlign layout32 ⌝ }
     ensures longest { λ _. do ⌜ (← ⟦Limits::LONGEST⟧ .entry) ≡ standard .longest ⌝ }
     ensures depths { λ _. do ⌜ (← ⟦Limits::DEPTH⟧ .entry) ≡ standard .depth ⌝ }
-{
-}
+{}

@@ -108,4 +108,3 @@ above-ascends k (x ∷ xs) a b = rw (lt-ltb k (x .key) (a .0), ascendsFrom) (abo
 pub ascends-true : (l : List Entry) → Ascending l → ascends l ≡ true
 ascends-true [] a = refl
 ascends-true (x ∷ xs) a = above-ascends (x .key) xs (a .0) (a .1)
-

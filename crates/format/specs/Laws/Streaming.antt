@@ -123,6 +123,10 @@ module _ (L : Layout) where
       ∙ ap (λ (y : List Slot). sealed q c (R .rest) ((bs ++ w) ++ (v ++ innerBytes L q y g))) (append-assoc n (x ∷ []) xs)
       ∙ ap (λ (y : List ℕ). sealed q c (R .rest) y) (append-assoc bs w (v ++ node) ∙ ap (λ (y : List ℕ). bs ++ y) (sym (append-assoc w v node)))
 
+  shift-climb : (S : List (List Slot)) (k c : ℕ) (n : List Slot) (b : Branch) (e : Pair) (R : FilledBranches) (p : ℕ) (bs : List ℕ)
+      → climb L S k (shut c (n ++ (slotOf e (childOf L b p) ∷ [])) R (p + lengthBranch L b) (bs ++ writeBranch L b p)) ≡ climb L S k (shut c n (moreOf b e R) p bs)
+  shift-climb S k c n b e R p bs = ap (climb L S k) (shifting c n b e R p bs)
+
   -- With no slot before, the node's subtree is done.
   shut-done : (c : ℕ) (R : FilledBranches) (p : ℕ) (bs : List ℕ) → shut c [] R p bs ≡ done c (closed R) p bs
   shut-done c R p bs =
@@ -194,7 +198,7 @@ module _ (L : Layout) where
         (λ c′. grown S n (l + sg (r .last)) c′ r p bs x xs (λ z. omega arith) e) (writes (n ∷ S) ll c m es p bs lf (omega arith)))
         (λ c₁ lf₁. comes-to ll (ready (n′ ∷ S) (l + sg (r .last)) c₁ xs p′ bs′) (λ c′. climb L S (suc (l + sg (R .last))) (shut c′ n′ R p′ bs′))
         (λ c′. climb L S (suc (l + sg (R .last))) (shut c′ n (moreOf b x R) p bs)) (R .last)
-        (λ c′. ap (climb L S (suc (l + sg (R .last)))) (shifting c′ n b x R p bs))
+        (λ c′. shift-climb S (suc (l + sg (R .last))) c′ n b x R p bs)
         (ih S n′ ll c₁ (r .last) xs p′ bs′ lf₁ (omega arith) (omega (arith, T .left, T .last, ap length e))))
 
     walks : (k : ℕ) → Walks k
@@ -405,7 +409,7 @@ module _ (L : Layout) where
             (leads-to L ll (ready (n ∷ S) 0 c es p bs) (climb L (n ∷ S) 0 (done (c + L .entries) r p bs)) (ready (n′ ∷ S) 0 (c + L .entries) xs p′ bs′)
             (leaf-full some (n ∷ S) ll c es p bs (m - L .entries) (omega arith) (λ i l z. omega arith)) (grown S n 0 (c + L .entries) r p bs y xs (λ z. omega arith) x))
             (leads-to L ll (ready (n′ ∷ S) 0 (c + L .entries) xs p′ bs′) (climb L S (sg (R .last)) (shut (d .count) n′ R p′ bs′)) (climb L S (sg (R .last)) (shut (d .count) n (moreOf (r .branch) y R) p bs))
-            (d .leads) (ap (climb L S (sg (R .last))) (shifting (d .count) n (r .branch) y R p bs)));
+            (d .leads) (shift-climb S (sg (R .last)) (d .count) n (r .branch) y R p bs));
       }
 
   -- The first child is the leaf that ends the last level.
