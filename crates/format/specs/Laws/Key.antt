@@ -1,4 +1,4 @@
--- Laws of the key packing: one for each way out, and that packing and unpacking undo each other. Assumes nothing.
+-- Laws of the key packing and the column query: one for each way out, and that packing and unpacking undo each other. Assumes nothing.
 use mathlib.Core.Path.{_≡_, refl, sym, ap, ap₂, _∙_}
 use mathlib.Core.Bool.{Bool, true, false}
 use Prim.Native.Nat.{ℕ, zero, suc, _+_, _-_, _*_, _/_, _%_, _^_, _≤_, _<_}
@@ -8,10 +8,12 @@ use native.Mathlib.Decide.{decLt}
 use borrow.Author.Tests.{lt-ltb, le-ltb}
 use lib.IntN.{ℤ}
 use lib.Signed.{mag}
-use Rattle.format.specs.Refusal.{Answer, gives, refuses}
+use Rattle.format.specs.declared.Bound.the-variants.{Included}
+use Rattle.format.specs.Refusal.{gives, refuses}
 use Rattle.format.specs.Signed.{twos, ofTwos}
+use Rattle.format.specs.Key.{keyOf, packKey, KeyFields, fieldsOf, columnBounds}
+use Rattle.format.specs.Laws.Filling.{upper}
 use Rattle.format.specs.Laws.Signed.{twos-lt, ofTwos-twos, twos-ofTwos}
-use Rattle.format.specs.Key.{keyOf, packKey, KeyFields, fieldsOf}
 
 pub pack-no-exam : (exam eye : ℕ) (x y : ℤ) (pres : ℕ) → 2 ^ 24 ≤ exam → packKey exam eye x y pres ≡ refuses 18
 unfolding packKey
@@ -85,3 +87,19 @@ pack-unpack k h =
     pack-given (k / 2 ^ 40) (k / 2 ^ 39 % 2) (ofTwos 7 (k / 2 ^ 31 % 256)) (ofTwos 7 (k / 2 ^ 23 % 256)) (k % 2 ^ 23) (omega arith) (omega arith) (omega arith)
     ∙ ap₂ (λ (x y : ℕ). gives (keyOf (k / 2 ^ 40) (k / 2 ^ 39 % 2) x y (k % 2 ^ 23))) (twos-ofTwos 7 (k / 2 ^ 31 % 256) (omega arith)) (twos-ofTwos 7 (k / 2 ^ 23 % 256) (omega arith))
     ∙ ap gives (omega (arith, div-div-eq-div-mul k (2 ^ 23) 256, div-div-eq-div-mul k (2 ^ 31) 256, div-div-eq-div-mul k (2 ^ 39) 2))
+
+-- ---- the column query
+
+module _ (exam eye : ℕ) (a b : ℤ) where
+  pub column-no-exam : 2 ^ 24 ≤ exam → columnBounds exam eye a b ≡ refuses 18
+  unfolding columnBounds
+  column-no-exam h = rw (le-ltb exam (2 ^ 24) h)
+
+  pub column-no-eye : exam < 2 ^ 24 → 2 ≤ eye → columnBounds exam eye a b ≡ refuses 18
+  unfolding columnBounds
+  column-no-eye g h = rw (lt-ltb exam (2 ^ 24) g, le-ltb eye 2 h)
+
+  pub column-given : (l u : ℕ) → exam < 2 ^ 24 → eye < 2 → l ≡ keyOf exam eye (twos 7 a) 0 0 → u ≡ keyOf exam eye (twos 7 b) (2 ^ 8 - 1) (2 ^ 23 - 1)
+      → columnBounds exam eye a b ≡ gives (record { lower = Included l; upper = Included u })
+  unfolding columnBounds
+  column-given l u g h e f = rw (lt-ltb exam (2 ^ 24) g, lt-ltb eye 2 h, e, f)
