@@ -73,7 +73,7 @@ module _ (L : Layout) where
   treeOf [] = noneB
   treeOf (e ∷ es) = let n = length (e ∷ es) in fill (height n - 1) (lastLevel n) (e ∷ es) .branch
 
-  -- ---- the archive
+  -- ---- what stands behind the header
 
   -- The alignment of what comes first after the header: "the first node, or the record if n = 0".
   abbrev pub firstAlign : Branch → ℕ

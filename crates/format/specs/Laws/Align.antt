@@ -14,7 +14,7 @@ unfolding isAlignment
 alignment-pos zero e = let x : _≡_ {A = ℕ} 0 1 = cc in absurd (omega arith)
 alignment-pos (suc a) e = omega arith
 
--- the tests of the code's match: 1 and 2 are a range, the others single numbers
+-- What the code's match tests: 1 and 2 as a range, then the four other alignments.
 pub is-small : (a : ℕ) → 1 ≤ a → a < 3 → isAlignment a ≡ true
 unfolding isAlignment
 is-small zero h l = absurd (omega arith)
@@ -50,7 +50,7 @@ pub step-refused : (p a : ℕ) → isAlignment a ≡ false → alignStep p a ≡
 unfolding alignStep
 step-refused p a e = rw e
 
--- ---- what the step means: fewer zeros than the alignment, and a position on it
+-- ---- the zeros are fewer than the alignment, and lead to a position on it
 
 pub zeros-lt : (a p : ℕ) → 0 < a → zerosTo a p < a
 zeros-lt a p h = mod-lt (a - p % a) h

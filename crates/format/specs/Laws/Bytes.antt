@@ -12,9 +12,9 @@ use lib.Pow.{pow-add}
 use lib.Dec.{lit<}
 use Rattle.format.specs.Bytes.{leAt, leBytes, put, AllBytes}
 
--- ---- laws of leAt
+-- ---- numbers that are read
 
--- the bytes alone matter
+-- A number depends on its own bytes only.
 pub leAt-ext : (w : ℕ) (s t : List ℕ) (p q : ℕ) → ((k : ℕ) → k < w → getD s (p + k) 0 ≡ getD t (q + k) 0) → leAt w s p ≡ leAt w t q
 unfolding leAt
 leAt-ext zero s t p q h = refl
@@ -25,7 +25,7 @@ unfolding leAt
 leAt-lt zero s p b = omega arith
 leAt-lt (suc w) s p b = rw (pow-suc 256 w) (omega (arith, digits-lt {m = 256} (b (p + w)) (leAt-lt w s p b)))
 
--- two fields side by side
+-- A number of v + w bytes, by its low v bytes and its high w.
 pub leAt-add : (v w : ℕ) (s : List ℕ) (p : ℕ) → leAt (v + w) s p ≡ leAt v s p + leAt w s (p + v) * 256 ^ v
 unfolding leAt
 leAt-add v zero s p = rw add-zero (omega arith)
@@ -36,16 +36,16 @@ pos256 : (w : ℕ) → 0 < 256 ^ w
 pos256 zero = lit< tt
 pos256 (suc w) = rw (pow-suc 256 w) (omega (arith, pos256 w))
 
--- a list that has v's bytes at p
+-- Where the bytes at p are those of v.
 pub leAt-digits : (w v : ℕ) (t : List ℕ) (p : ℕ) → ((k : ℕ) → k < w → getD t (p + k) 0 ≡ v / 256 ^ k % 256) → leAt w t p ≡ v % 256 ^ w
 unfolding leAt
 leAt-digits zero v t p h = sym (mod-one v)
 leAt-digits (suc w) v t p h =
     rw (h w (le-refl (suc w)), leAt-digits w v t p (λ k l. h k (omega arith)), pow-suc 256 w, mul-comm (256 ^ w) 256, mod-mul v {m = 256} {c = 256 ^ w} (lit< tt) (pos256 w)) (omega arith)
 
--- ---- laws of put
+-- ---- bytes that are written
 
--- the two ranges have no place in common
+-- The m places from p on and the n from q on are different places.
 abbrev pub Apart : ℕ → ℕ → ℕ → ℕ → Type 0
 Apart p m q n = (p + m ≤ q) ⊎ (q + n ≤ p)
 
@@ -71,7 +71,7 @@ pub leAt-put-apart : (w : ℕ) (s : List ℕ) (p q : ℕ) (bs : List ℕ) → Ap
 leAt-put-apart w s p q bs a =
     leAt-ext w (put s q bs) s p p (λ k l. ⊎-elim (λ (h : p + w ≤ q). put-below bs s q (p + k) (omega arith)) (λ (h : q + length bs ≤ p). put-above bs s q (p + k) (omega arith)) a)
 
--- ---- laws of leBytes
+-- ---- the bytes of a number
 
 pub length-leBytes : (w v : ℕ) → length (leBytes w v) ≡ w
 unfolding leBytes
@@ -85,13 +85,13 @@ getD-leBytes (suc w) v zero l = rw div-one
 getD-leBytes (suc w) v (suc k) l =
     getD-leBytes w (v / 256) k (omega arith) ∙ rw (div-div-eq-div-mul, pow-suc 256 k, mul-comm 256 (256 ^ k))
 
--- what is written is read back
+-- A number that is written is read back, up to its low w bytes.
 pub leAt-put-same : (w v : ℕ) (s : List ℕ) (p : ℕ) → p + w ≤ length s → leAt w (put s p (leBytes w v)) p ≡ v % 256 ^ w
 leAt-put-same w v s p h =
     leAt-digits w v (put s p (leBytes w v)) p
     (λ k l. put-inside (leBytes w v) s p k (rw length-leBytes h) (rw length-leBytes l) ∙ getD-leBytes w v k l)
 
--- only the low w bytes of v are written
+-- The bytes above the width do not count.
 pub leBytes-mod : (w v : ℕ) → leBytes w (v % 256 ^ w) ≡ leBytes w v
 unfolding leBytes
 leBytes-mod zero v = refl
@@ -110,11 +110,11 @@ leBytes-add zero b v = rw (zero-add, div-one)
 leBytes-add (suc a) b v =
     rw (suc-add, pow-suc 256 a, mul-comm (256 ^ a) 256, ← div-div-eq-div-mul v 256 (256 ^ a)) (ap (λ (r : List ℕ). v % 256 ∷ r) (leBytes-add a b (v / 256)))
 
--- a field is written as its low part and then its high part
+-- Writing a bytes and then b more writes a number of a + b.
 pub put-parts : (a b v : ℕ) (s : List ℕ) (p : ℕ) → put s p (leBytes (a + b) v) ≡ put (put s p (leBytes a (v % 256 ^ a))) (p + a) (leBytes b (v / 256 ^ a))
 put-parts a b v s p = rw (leBytes-add a b v, put-append, length-leBytes, leBytes-mod)
 
--- ---- parts of a list, and a field's own bytes
+-- ---- parts of a list
 
 pub length-put : (s : List ℕ) (p : ℕ) (bs : List ℕ) → length (put s p bs) ≡ length s
 length-put s p bs = length-sets s p bs
@@ -151,7 +151,7 @@ first-byte r s q b =
     let h : leAt (suc r) s q ≡ leAt 1 s q + leAt r s (q + 1) * 256 ^ 1 = rw g at e in
     rw h (omega (arith, b q))
 
--- the byte at each place of a field
+-- Byte k of the number is the byte that stands at place k.
 pub leAt-byte : (w k : ℕ) (s : List ℕ) (p : ℕ) → AllBytes s → k < w → leAt w s p / 256 ^ k % 256 ≡ getD s (p + k) 0
 leAt-byte w k s p b l =
     let n : w ≡ k + suc (w - suc k) = omega arith in
@@ -159,7 +159,7 @@ leAt-byte w k s p b l =
     ap (λ (v : ℕ). leAt v s p) n ∙ leAt-add k (suc (w - suc k)) s p ∙ omega arith in
     rw (e, digits-div (leAt (suc (w - suc k)) s (p + k)) (leAt-lt k s p b)) (first-byte (w - suc k) s (p + k) b)
 
--- the bytes of what a field says are the bytes that stand there
+-- The bytes of the number that is read are the bytes read.
 pub leBytes-leAt : (w : ℕ) (s : List ℕ) (p : ℕ) → AllBytes s → p + w ≤ length s → leBytes w (leAt w s p) ≡ take w (drop p s)
 leBytes-leAt w s p b h =
     ext-getD 0 (leBytes w (leAt w s p)) (take w (drop p s)) (length-leBytes w (leAt w s p) ∙ simp (length-take, length-drop) (omega arith))

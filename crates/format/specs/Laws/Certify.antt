@@ -68,7 +68,7 @@ module _ (L : Layout) (s : List ℕ) where
   holds-solid (suc d) lo hi p n g f q v e el r ef =
       node-solid (Holds L s d) (hollowAt L s d) (holds-solid d) v (or-left (hollow L s p (kind L s p)) _ e) (or-right (hollow L s p (kind L s p)) _ e) el r ef
 
-  -- the other order: a hollow L s node is reachable
+  -- The other way: where the test finds a hollow node, one is reachable.
   pub record Hollow (g : ℕ) : Type 0 where
     pub field : ℕ
     pub from : From L s g field

@@ -105,6 +105,6 @@ module _ (L : Layout) (s : List ℕ) where
   holds-same (suc d) zero h lo hi p n v = absurd (omega arith)
   holds-same (suc d) (suc fuel) h lo hi p n v = node-same (Holds L s d) (listAt L s fuel) (listAt L s d) (holds-same d fuel (omega arith)) v
 
-  -- the list does not depend on the fuel, from the depth on
+  -- From the depth on, more fuel gives the same list.
   pub same-list : {d lo hi p n : ℕ} → Valid L s d lo hi p n → (fuel : ℕ) → d ≤ fuel → listAt L s fuel p ≡ listAt L s d p
   same-list {d} v fuel h = holds-same d fuel h _ _ _ _ (v .holds)

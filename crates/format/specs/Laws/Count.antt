@@ -1,4 +1,4 @@
--- A valid node gives as many entries as the check counts. Assumes nothing.
+-- The list of a node that holds has the number of entries that the check counts. Assumes nothing.
 use Prim.Native.Nat.{ℕ, zero, suc, _+_, _≤_}
 use mathlib.Core.Path.{_≡_, refl, ap}
 use mathlib.Core.Bool.{Bool, true, false}
@@ -40,6 +40,6 @@ module _ (L : Layout) (s : List ℕ) where
   holds-count (suc d) zero h lo hi p n v = absurd (omega arith)
   holds-count (suc d) (suc fuel) h lo hi p n v = node-count (Holds L s d) (listAt L s fuel) (holds-count d fuel (omega arith)) v
 
-  -- the accepted number of entries is the list's length
+  -- At every fuel from the depth on.
   pub count : {d lo hi p n : ℕ} → Valid L s d lo hi p n → (fuel : ℕ) → d ≤ fuel → length (listAt L s fuel p) ≡ n
   count {d} {lo} {hi} {p} {n} v fuel h = holds-count d fuel h lo hi p n (v .holds)

@@ -98,7 +98,7 @@ stands-bytes : {s : List ℕ} {p : ℕ} {xs ys : List ℕ} → xs ≡ ys → Sta
 stands-bytes {s} {p} e a = subst (Stands s p) e a
 
 module _ (L : Layout) (s : List ℕ) where
-  -- the keys and the values from slot i on
+  -- The columns of keys and values stand in the node at p, from slot i on.
   record Cols (p i n : ℕ) (es : List Pair) : Type 0 where
     keys : Stands s (p + 8 + 8 * i) (column (λ (e : Pair). e .key) n es)
     values : Stands s (p + valuesFrom L + 8 * i) (column (λ (e : Pair). e .value) n es)
@@ -158,7 +158,7 @@ or-false : (a b : Bool) → a ≡ false → b ≡ false → (elim a as (λ _. Bo
 or-false a b ea eb = rw ea eb
 
 module _ (L : Layout) (s : List ℕ) where
-  -- the tree t, written from b on, is valid in the range from lo to hi, and gives its entries
+  -- What is known of the tree t where it is written from b on: its node holds in the range from lo to hi, gives the entries, and is not hollow.
   pub record TreeRes (t : Tree) (d b lo hi : ℕ) : Type 0 where
     pub n : ℕ
     pub holds : Holds L s d lo hi (topT L t b) n

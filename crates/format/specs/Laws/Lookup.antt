@@ -86,7 +86,7 @@ module _ (L : Layout) (s : List ℕ) (k : ℕ) where
     body-find p inner a = children-find p (L .entries) 0 a
     body-find p other a = refl
 
-  -- on a list that ascends, the lookup answers its entry with the key
+  -- Where the keys that a node gives ascend, the search from that node finds what the list has.
   pub lookup-find : (fuel p : ℕ) → Ascending (listAt L s fuel p) → lookupAt L s k fuel p ≡ find k (listAt L s fuel p)
   unfolding lookupAt listAt
   lookup-find zero p a = refl

@@ -1,5 +1,5 @@
--- The pointer fields that are reachable, and where they lead in a valid node: inside its range (`lands`), and two of them to nodes that
--- share no byte (`apart`). Assumes nothing.
+-- Where the fields that are reachable from a node that holds lead: into the range before the node's end (`lands`), two of them to nodes that share
+-- no byte (`apart`), and no two to one node (`once`). Assumes nothing.
 use Prim.Native.Nat.{ℕ, zero, suc, _+_, _%_, _≤_, _<_}
 use mathlib.Core.Path.{_≡_, refl, sym, ap, subst}
 use mathlib.Core.Bool.{Bool, true, false}
@@ -40,27 +40,27 @@ module _ (L : Layout) (s : List ℕ) where
   children-of N (leafOk ek i l e) e′ = let z : _≡_ {A = ℕ} 0 1 = cc in absurd (omega arith)
   children-of N (innerOk ek i m ks e) e′ = (m, ks)
 
-  -- f is reachable from a child that is there, of the children of the node at p from child i on
+  -- f is reachable through a child that is there: one of k + 1 children of the node at p from child i on.
   pub record Through (p f k i : ℕ) : Type 0 where
     pub index : ℕ
     pub nth : Nth k i index
     pub present : absent L s (child L p index) ≡ false
     pub from : From L s (child L p index) f
 
-  -- a child's field, at the node
+  -- A field below g, where g leads to p, is reached through a child of p.
   pub through-below : {g h p f : ℕ} → target L s g ≡ at p → (b : Below L s g h) → From L s h f → (b .node ≡ p) × Through p f (L .entries) 0
   through-below {g} {h} {p} el b r =
       let e : b .node ≡ p = cc (b .leads) in
       let ei : h ≡ child L p (b .index) = rw (← e) (b .is) in
       (e, record { index = b .index; nth = nth-of (b .bound); present = rw ei at (b .present); from = rw ei at r })
 
-  -- what is known of the nodes N one level down
+  -- The two facts that the induction on the depth carries about nodes N one level down.
   record Known (N : ℕ → ℕ → ℕ → ℕ → Type 0) : Type 0 where
     placed : {lo hi p n : ℕ} → N lo hi p n → Inside L s lo hi p
     under : {lo hi p n g f : ℕ} → N lo hi p n → target L s g ≡ at p → From L s g f → Lands L s lo (p + sizeAt L s p) f
 
   module _ (N : ℕ → ℕ → ℕ → ℕ → Type 0) (K : Known N) where
-    -- the range moves on
+    -- The next child's range starts no earlier and no later than the node.
     child-moves : {lo hi f stop n : ℕ} → ChildOk L s N lo hi f stop n → lo ≤ hi → (lo ≤ stop) × (stop ≤ hi)
     child-moves (gone ea es en) h = omega arith
     child-moves (there ea q el nd es) h = let i = K .placed nd in omega arith
@@ -93,7 +93,7 @@ module _ (L : Layout) (s : List ℕ) where
   pub inside : {d lo hi p n : ℕ} → Valid L s d lo hi p n → Inside L s lo hi p
   inside {d} v = known d .placed (v .holds)
 
-  -- every field that is reachable from a field that leads to a valid node leads to an aligned node between the range's start and the node's end
+  -- From a field that leads to a node that holds, every reachable field leads to an aligned node from the range's start up to that node's end.
   pub lands : {d lo hi p n g f : ℕ} → Valid L s d lo hi p n → target L s g ≡ at p → From L s g f → Lands L s lo (p + sizeAt L s p) f
   lands {d} v = known d .under (v .holds)
 
@@ -148,12 +148,12 @@ module _ (L : Layout) (s : List ℕ) where
   separate zero lo hi p n g f f′ v el r r′ ne = absurd v
   separate (suc d) lo hi p n g f f′ v el r r′ ne = node-apart (Holds L s d) (known d) (separate d) v el r r′ ne
 
-  -- two different fields that are reachable lead to nodes that share no byte
+  -- Two different ones lead to nodes that share no byte.
   pub apart : {d lo hi p n g f f′ : ℕ} → Valid L s d lo hi p n → target L s g ≡ at p → From L s g f → From L s g f′ → f ≢ f′ → Apart L s f f′
   unfolding Separate
   apart {d} v el r r′ ne = separate d _ _ _ _ _ _ _ (v .holds) el r r′ ne
 
-  -- no node is reached twice
+  -- Two that lead to one node are one field.
   pub once : {d lo hi p n g f f′ q : ℕ} → Valid L s d lo hi p n → target L s g ≡ at p → From L s g f → From L s g f′ → target L s f ≡ at q → target L s f′ ≡ at q → f ≡ f′
   once {d} {lo} {hi} {p} {n} {g} {f} {f′} {q} v el r r′ ef ef′ = elim (ℕ-discrete f f′) [ yes e ↦ e | no ne ↦ absurd (clash (apart v el r r′ ne)) ]
     where

@@ -35,7 +35,7 @@ pub fits-refused : (h n : ℕ) (z : ℤ) → 2 ^ h ≤ mag z → fitSigned h n z
 unfolding fitSigned
 fits-refused h n z l = rw (le-ltb (mag z) (2 ^ h) l)
 
--- the two tests of a number against the ends of the range
+-- What the code learns from its two tests, below the least number of h + 1 bits and above the greatest.
 pub below-refused : (h n : ℕ) (z : ℤ) → ltZ z (negsuc (2 ^ h - 1)) ≡ true → fitSigned h n z ≡ refuses n
 below-refused h n (pos m) e = let x : _≡_ {A = ℕ} 0 1 = cc in absurd (omega arith)
 below-refused h n (negsuc m) e = fits-refused h n (negsuc m) (omega (arith, ltb-true (2 ^ h - 1) m e, pow-pos h))
@@ -56,7 +56,7 @@ pub offset-behind : (from to : ℕ) → to < from → signedOffset from to ≡ f
 unfolding signedOffset
 offset-behind from to l = rw (lt-ltb to from l) (ap (λ (d : ℕ). fitSigned 63 15 (negsuc d)) (omega arith))
 
--- a call after a call, by what the first answers
+-- The stored offset, by what the signed difference answers.
 pub stored-refused : (h from to n : ℕ) → signedOffset from to ≡ refuses n → storedOffset h from to ≡ refuses n
 unfolding storedOffset
 stored-refused h from to n e = rw e

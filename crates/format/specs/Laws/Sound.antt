@@ -1,4 +1,4 @@
--- What the check accepts is valid. Assumes nothing.
+-- Where the check accepts, the node relation holds: each accepting computation is taken apart test by test. Assumes nothing.
 use Prim.Native.Nat.{ℕ, zero, suc, _+_, _%_, _≤_}
 use mathlib.Core.Path.{_≡_, refl, ap}
 use mathlib.Core.Bool.{Bool, true, false}
@@ -25,7 +25,7 @@ bind-inv (accepted m u) k e = (m, u, refl, e)
 bind-inv (refused r) k e = absurd (refused≢accepted _ _ _ e)
 
 module _ (L : Layout) (s : List ℕ) where
-  -- the field f leads to a node N
+  -- The field f leads to a node N of n entries, after which the range starts at `stop`.
   pub record Leads (N : ℕ → ℕ → ℕ → ℕ → Type 0) (lo hi f n stop : ℕ) : Type 0 where
     pub pos : ℕ
     pub leads : target L s f ≡ at pos
@@ -67,7 +67,7 @@ module _ (L : Layout) (s : List ℕ) where
       (innerOk ek ins m′ ks (cc), rw ek (cc))
   body-inv N check ih lo hi p n t ins other ek e = absurd (refused≢accepted _ _ _ e)
 
-  -- what a passed test of the node's place says
+  -- What an accepting test of a node's place says.
   record Entered (lo hi : ℕ) (g : Target) (a : Checked) (n t : ℕ) : Type 0 where
     pos : ℕ
     leads : g ≡ at pos

@@ -460,7 +460,7 @@ module _ (L : Layout) where
   ends-all some zero = ends-zero some
   ends-all some (suc k) = ends-more some k (ends-all some k)
 
-  -- ---- the tree, level by level
+  -- ---- the levels, from the last one up
 
   low-writes : 0 < L .entries → Writes (fill L 1) (upper L 1) (room L 1) 0
   unfolding Writes fill Ends

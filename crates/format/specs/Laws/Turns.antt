@@ -16,7 +16,7 @@ use Rattle.format.specs.Tree.{Pair, Slot, slotOf}
 use Rattle.format.specs.Serialize.{State, withInners, closeLeaf, closeInner, grow, climb, takeEntries, transit, pushLeaf, turn, step, run}
 
 module _ (L : Layout) where
-  -- ---- the cases of a climb and of a turn
+  -- ---- climbs and turns, case by case
 
   pub climb-close : (n : List Slot) (st : List (List Slot)) (k : ℕ) (s : State) → length n ≡ L .entries → climb L (n ∷ st) k s ≡ climb L st (suc k) (closeInner L n s)
   unfolding climb
