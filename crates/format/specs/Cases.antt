@@ -18,7 +18,7 @@ use Rattle.format.specs.Node.{kind, slot}
 use Rattle.format.specs.Check.{root, recorded}
 use Rattle.format.specs.Entries.{slots, listChild, listChildren, listBody, listAt, list}
 use Rattle.format.specs.Range.{range}
-use Rattle.format.specs.Tree.{Pair, head, leafBytes, innerBytes}
+use Rattle.format.specs.Tree.{head, leafBytes, innerBytes}
 use Rattle.format.specs.Build.{pairs, fill, logFrom, height, lastLevel, treeOf, behind, archive}
 
 -- What is asked of an archive's bytes.

@@ -24,5 +24,7 @@ pub mod Height
 pub mod Built
 pub mod Built32
 pub mod Turns
+pub mod Subtrees
+pub mod LastLevel
 pub mod Streaming
 pub mod Depth

@@ -1,7 +1,7 @@
 -- Ranges of keys. Document 01, "Range", in "What may be called" and under "The list that demand 3 speaks of". Assumes nothing: these are
 -- definitions.
 use Prim.Native.Nat.{ℕ}
-use mathlib.Core.Bool.{Bool, true, false, _&&_}
+use mathlib.Core.Bool.{Bool, true, false}
 use mathlib.Core.List.{List, [], _∷_}
 use lib.Dec.{leb, ltb}
 use Rattle.format.specs.declared.Entry.{Entry}

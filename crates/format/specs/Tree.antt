@@ -1,6 +1,6 @@
 -- A tree of entries, and its nodes as bytes: the children from left to right, then the node. Document 01, "Bytes": "Unused bytes written by the
 -- builder are zero". Assumes nothing: these are definitions.
-use Prim.Native.Nat.{ℕ, zero, suc, _+_, _-_, _*_, max}
+use Prim.Native.Nat.{ℕ, zero, suc, _+_, _-_, _*_}
 use mathlib.Core.List.{List, [], _∷_, _++_, map}
 use lib.ListN.{length, replicate}
 use lib.IntN.{subℕ}

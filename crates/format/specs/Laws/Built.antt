@@ -1,13 +1,13 @@
 -- The builder's archive is certified, and its list is what was given: over every layout, for entries whose tree fits the limits and the width.
 -- Assumes nothing.
-use Prim.Native.Nat.{ℕ, zero, suc, _+_, _-_, _*_, _^_, _/_, _%_, _≤_, _<_, min}
-use mathlib.Core.Path.{_≡_, refl, sym, ap, _∙_, subst, subst₂}
+use Prim.Native.Nat.{ℕ, suc, _+_, _-_, _*_, _^_, _%_, _≤_, _<_}
+use mathlib.Core.Path.{_≡_, refl, sym, ap, _∙_, subst}
 use mathlib.Core.Bool.{Bool, true, false, not}
 use mathlib.Core.List.{List, [], _∷_, _++_, map, append-assoc, append-nil}
 use native.Mathlib.Omega.{arith}
 use native.Mathlib.Nat.{add-zero}
-use lib.ListN.{length, getD, replicate, length-append, length-replicate}
-use lib.Dec.{leb, ltb, eqb}
+use lib.ListN.{length, replicate, length-append, length-replicate}
+use lib.Dec.{ltb}
 use borrow.Author.Tests.{le-leb, lt-ltb, eq-eqb}
 use Rattle.format.specs.declared.Entry.{Entry}
 use Rattle.format.specs.declared.Child.{Child}
@@ -24,7 +24,6 @@ use Rattle.format.specs.Tree.{Pair, offsetBytes, Tree, Branch, noneB, so
 use Rattle.format.specs.Build.{fill, height, lastLevel, treeOf, firstAlign, start, behind, archive, risesFrom, rises}
 use Rattle.format.specs.Laws.Align.{step-aligned}
 use Rattle.format.specs.Laws.Bytes.{length-leBytes}
-use Rattle.format.specs.Laws.Certify.{certified}
 use Rattle.format.specs.Laws.Complete.{pass, complete}
 use Rattle.format.specs.Laws.Filling.{fill-flat, upper, room, fill-took, BranchDone, fill-done, fill-depth}
 use Rattle.format.specs.Laws.Height.{Fitting, fitting}

@@ -1,12 +1,12 @@
 -- What document 01 says of the builder, at 32 bits and five entries a node: for every strictly ascending list that 10 to 14 let through, behind
 -- whatever header, the archive is certified and its list has the given keys and values, and neither 15 nor 16 arises. Assumes nothing.
-use Prim.Native.Nat.{ℕ, zero, suc, _+_, _-_, _*_, _/_, _%_, _^_, _≤_, _<_}
-use mathlib.Core.Path.{_≡_, refl, sym, ap, _∙_, subst}
+use Prim.Native.Nat.{ℕ, zero, suc, _+_, _-_, _*_, _^_, _≤_, _<_}
+use mathlib.Core.Path.{_≡_, refl, sym, ap, _∙_}
 use mathlib.Core.Bool.{Bool, true, false}
-use mathlib.Core.List.{List, [], _∷_, _++_, map, append-assoc}
+use mathlib.Core.List.{List, [], _∷_, _++_, map}
 use native.Mathlib.Omega.{arith}
 use native.Mathlib.Nat.{suc-ne-zero, suc-inj}
-use lib.ListN.{length, getD, take, drop, length-append, length-replicate}
+use lib.ListN.{length, take, drop, length-append}
 use lib.Seq.{sets-eq, length-take-le}
 use lib.Dec.{leb, eqb, lit≤}
 use lib.IntN.{subℕ, pos as plus}
@@ -20,10 +20,9 @@ use Rattle.format.specs.Bytes.{AllWords}
 use Rattle.format.specs.RelPtr.{fitSigned, storedOffset, absentOffset}
 use Rattle.format.specs.Check.{counted}
 use Rattle.format.specs.Entries.{list}
-use Rattle.format.specs.Certify.{ascends, certify}
+use Rattle.format.specs.Certify.{certify}
 use Rattle.format.specs.Tree.{Pair, Tree, leafT, innerT, Branches, lastB, moreB, Branch, noneB, someB, lengthT, lengthBranches, lengthBranch, topT, childOf}
 use Rattle.format.specs.Build.{fill, height, lastLevel, treeOf, start, behind, archive, pairs, rises, build, outBy, outAfter}
-use Rattle.format.specs.Cases.{size}
 use Rattle.format.specs.Laws.Align.{zeros-lt}
 use Rattle.format.specs.Laws.Built.{keysOf, archive-length, Built, built-none, TreeOf, tree-of, tree-wf, built-some}
 use Rattle.format.specs.Laws.Filling.{upper, Part, whole, partial}

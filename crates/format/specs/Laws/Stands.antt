@@ -1,5 +1,5 @@
 -- Bytes that stand at a position of a list, and that a number or an offset that is written so is read back. Assumes nothing.
-use Prim.Native.Nat.{ℕ, zero, suc, _+_, _-_, _*_, _^_, _/_, _%_, _≤_, _<_}
+use Prim.Native.Nat.{ℕ, zero, suc, _+_, _-_, _*_, _^_, _≤_, _<_}
 use mathlib.Core.Path.{_≡_, refl, sym, ap, _∙_, subst, subst₂}
 use mathlib.Core.Bool.{true, false}
 use mathlib.Core.List.{List, [], _∷_, _++_}
@@ -7,9 +7,8 @@ use native.Mathlib.Omega.{arith}
 use native.Mathlib.Nat.{add-zero, add-suc, suc-add, mod-eq-of-lt, not-suc-le-zero, pow-suc}
 use lib.ListN.{length, getD}
 use lib.Dec.{lit≤}
-use lib.IntN.{ℤ, pos, negsuc, subℕ, _+ℤ_}
-use lib.Signed.{mag}
-use borrow.Author.Tests.{lt-ltb, le-ltb, eq-eqb, ne-eqb}
+use lib.IntN.{negsuc, subℕ}
+use borrow.Author.Tests.{lt-ltb, eq-eqb, ne-eqb}
 use Rattle.format.specs.declared.Position.{Position}
 use Rattle.format.specs.declared.Child.the-variants.{At, Absent}
 use Rattle.format.specs.Layout.{Width, two, four, eight, bytes, signBits, Layout, pointer}
