@@ -28,3 +28,9 @@ pub mod Subtrees
 pub mod LastLevel
 pub mod Streaming
 pub mod Depth
+pub mod Children
+pub mod Node
+pub mod Bounds
+pub mod Entered
+pub mod Written
+pub mod Opened
