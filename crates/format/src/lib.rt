@@ -53,6 +53,12 @@ pub enum Refusal {
     KeyFieldOverflow,
 }
 
+// What check and certify answer: the recorded count, or a refusal.
+pub enum CheckAnswer {
+    Accepted(usize),
+    Refused(Refusal),
+}
+
 // The layout: 32-bit offsets and counts, five entries a node. Sizes and alignments are in bytes.
 pub struct Layout;
 
