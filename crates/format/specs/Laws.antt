@@ -9,6 +9,7 @@ pub mod Complete
 pub mod Reach
 pub mod Count
 pub mod Ascend
+pub mod Find
 pub mod Lookup
 pub mod Archive
 pub mod Certify
