@@ -4,6 +4,7 @@ use Prim.Native.Nat.{ℕ, zero, suc, _+_, _-_, _≤_, _<_}
 use mathlib.Core.Path.{_≡_, refl, sym, _∙_, ap, subst}
 use mathlib.Core.Bool.{Bool, true, false}
 use mathlib.Core.List.{List, []}
+use mathlib.Core.Logic.{_↔_}
 use native.Mathlib.Omega.{arith}
 use lib.ListN.{length}
 use Rattle.format.specs.declared.Entry.{Entry}
@@ -15,13 +16,13 @@ use Rattle.format.specs.Refusal.{gives, refuses}
 use Rattle.format.specs.RelPtr.{at, target}
 use Rattle.format.specs.Check.{Checked, accepted, refused, counted, root, recorded, checkArchive}
 use Rattle.format.specs.Entries.{listAt, listOf, list}
-use Rattle.format.specs.Certify.{ascends, hollowAt, hollowOf, certify}
+use Rattle.format.specs.Certify.{Ascending, ascends, Solid, hollowAt, hollowOf, certify}
 use Rattle.format.specs.Lookup.{bytesOf, lookupAt, lookupOf, lookup}
 use Rattle.format.specs.Range.{matches, select, range}
 use Rattle.format.specs.Written.{written, keysAfter, valuesAfter}
 use Rattle.format.specs.Calls.{lookupCall, bytesCall, walkCall, walkKeys, walkValues, rangeCall, rangeKeys, rangeValues}
 use Rattle.format.specs.Laws.Archive.{Rooted, Archive, archive}
-use Rattle.format.specs.Laws.Certify.{Certified, certified, certify-accepts, certify-hollow, certify-order, certify-passes, certify-refused}
+use Rattle.format.specs.Laws.Certify.{Certified, certified, certify-accepts, certify-hollow, certify-order, certify-passes, certify-refused, exactly}
 use Rattle.format.specs.Laws.Node.{Down, Node, root-down, root-node}
 use Rattle.format.specs.Laws.Written.{Out, out, walked, none-walked}
 
@@ -94,6 +95,10 @@ module _ (L : Layout) (M : Limits) (s : List ℕ) where
 
     arch : Archive L M s
     arch = archive L M s n next accepts .0
+
+    -- An accepted archive.
+    pub is-archive : Archive L M s
+    is-archive = arch
 
     pub is-recorded : n ≡ recorded L s
     is-recorded = archive L M s n next accepts .1
@@ -242,6 +247,17 @@ module _ (L : Layout) (M : Limits) (s : List ℕ) where
 
           pub walk-values-gives : walkValues L M s ks vs ≡ vs′
           walk-values-gives = walk-values-accepted ks vs ∙ ap (λ (x : Out). x .values) whole
+
+  -- Accepted bytes are certified, with the same count, exactly when the list's keys ascend and no reachable node is hollow.
+  pub certified-exactly : (n : ℕ) → counted (checkArchive L M s) ≡ gives n → (counted (certify L M s) ≡ gives n) ↔ (Ascending (list L M s) × Solid L s)
+  certified-exactly n e =
+      let t = gives-inv (checkArchive L M s) n e .0 in
+      let accepts-n : checkArchive L M s ≡ accepted n t = gives-inv (checkArchive L M s) n e .1 in
+      (λ c.
+      let u = gives-inv (certify L M s) n c .0 in
+      let C = certified L M s n u (gives-inv (certify L M s) n c .1) .0 in
+      (C .ascending, C .solid),
+      λ h. ap counted (exactly L M s n t accepts-n .1 h))
 
   -- ---- bytes that certify accepts
 

@@ -1,0 +1,194 @@
+-- The mission's demands as theorems about what the calls promise, in the order of its sentences. The calls' contracts equate each answer, and
+-- each lent list afterwards, with a definition of `format` at `layout32` and `standard`; the theorems speak of these definitions, for all arguments.
+-- Assumes nothing.
+use Prim.Native.Nat.{ℕ, _+_, _<_, _≤_}
+use mathlib.Core.Path.{_≡_, refl, sym, _∙_, ap}
+use mathlib.Core.Logic.{_≢_, _↔_}
+use mathlib.Core.Bool.{true, false}
+use mathlib.Core.List.{List, [], map, _++_}
+use native.Mathlib.Omega.{arith}
+use lib.Dec.{lit≤}
+use lib.ListN.{length, take, drop}
+use lib.Seq.{length-take-le}
+use Rattle.format.specs.declared.Entry.{Entry}
+use Rattle.format.specs.declared.Found.{Found}
+use Rattle.format.specs.declared.Found.the-variants.{Entry as found, Nothing as nothing}
+use Rattle.format.specs.declared.Bound.{Bound}
+use Rattle.format.specs.Layout.{layout32, standard}
+use Rattle.format.specs.Refusal.{Answer, gives, refuses}
+use Rattle.format.specs.Bytes.{AllWords}
+use Rattle.format.specs.RelPtr.{at, target}
+use Rattle.format.specs.Check.{counted, root, recorded, checkArchive}
+use Rattle.format.specs.Entries.{list}
+use Rattle.format.specs.Reachable.{Field, Lands, Apart}
+use Rattle.format.specs.Certify.{Ascending, Solid, certify}
+use Rattle.format.specs.Lookup.{find, bytesOf}
+use Rattle.format.specs.Range.{crosses, range}
+use Rattle.format.specs.RangeIter.{new, Yields}
+use Rattle.format.specs.Written.{written, keysAfter, valuesAfter}
+use Rattle.format.specs.Tree.{Pair}
+use Rattle.format.specs.Build.{treeOf, pairs, build, archive, outBy, outAfter}
+use Rattle.format.specs.Serialize.{streamed}
+use Rattle.format.specs.Calls.{lookupCall, bytesCall, walkCall, walkKeys, walkValues, rangeCall, rangeKeys, rangeValues}
+use Rattle.format.specs.Laws.Find.{In, find-found, find-nothing, find-one}
+use Rattle.format.specs.Laws.Refusals.{UpTo, check-up, certify-up}
+use Rattle.format.specs.Laws.Archive.{field-lands, field-apart, field-once, list-length}
+use Rattle.format.specs.Laws.Certify.{Certified, lookup-certified}
+use Rattle.format.specs.Laws.Opened.{certify-refuses, lookup-refuses, bytes-refuses, walk-refuses, walk-keys-refuses, walk-values-refuses, range-refuses, range-keys-refuses, range-values-refuses, is-recorded, is-archive, lookup-accepted, bytes-accepted, walk-accepted, walk-keys-accepted, walk-values-accepted, certified-exactly, is-certified, certified-accepts, range-certified, range-keys-certified, range-values-certified}
+use Rattle.format.specs.Laws.RangeIter.{range-yields}
+use Rattle.format.specs.Laws.Built32.{Taken, taken, Certifies, build-certifies, build-output, Offsets, build-emplaces}
+use Rattle.format.specs.Laws.Streaming.{streamed-archive}
+
+-- ---- demand 1: "gets an answer or a listed refusal .. and a refusal changes no lent buffer"
+
+-- Check answers a count or refuses by 1 to 7, certify by 1 to 9. The readers refuse by check's number, the range by certify's.
+pub demand-1-check : (s : List ℕ) → UpTo 7 (checkArchive layout32 standard s)
+demand-1-check s = check-up layout32 standard s
+
+pub demand-1-certify : (s : List ℕ) → UpTo 9 (certify layout32 standard s)
+demand-1-certify s = certify-up layout32 standard s
+
+pub record WalkRefused (s ks vs : List ℕ) (r : ℕ) : Type 0 where
+  pub answer : walkCall layout32 standard s ks vs ≡ refuses r
+  pub keys : walkKeys layout32 standard s ks vs ≡ ks
+  pub values : walkValues layout32 standard s ks vs ≡ vs
+
+pub demand-1-walk : (s ks vs : List ℕ) (r : ℕ) → counted (checkArchive layout32 standard s) ≡ refuses r → WalkRefused s ks vs r
+demand-1-walk s ks vs r e =
+    record {
+      answer = walk-refuses layout32 standard s r e ks vs;
+      keys = walk-keys-refuses layout32 standard s r e ks vs;
+      values = walk-values-refuses layout32 standard s r e ks vs;
+    }
+
+pub record LookupRefused (s : List ℕ) (k r : ℕ) : Type 0 where
+  pub answer : lookupCall layout32 standard s k ≡ refuses r
+  pub part : bytesCall layout32 standard s k ≡ []
+
+pub demand-1-lookup : (s : List ℕ) (k r : ℕ) → counted (checkArchive layout32 standard s) ≡ refuses r → LookupRefused s k r
+demand-1-lookup s k r e = record { answer = lookup-refuses layout32 standard s r e k; part = bytes-refuses layout32 standard s r e k }
+
+pub record RangeRefused (s : List ℕ) (lo hi : Bound) (ks vs : List ℕ) (r : ℕ) : Type 0 where
+  pub answer : rangeCall layout32 standard s lo hi ks vs ≡ refuses r
+  pub keys : rangeKeys layout32 standard s lo hi ks vs ≡ ks
+  pub values : rangeValues layout32 standard s lo hi ks vs ≡ vs
+
+pub demand-1-range : (s : List ℕ) (lo hi : Bound) (ks vs : List ℕ) (r : ℕ) → counted (certify layout32 standard s) ≡ refuses r → RangeRefused s lo hi ks vs r
+demand-1-range s lo hi ks vs r e =
+    record {
+      answer = range-refuses layout32 standard s r e lo hi ks vs;
+      keys = range-keys-refuses layout32 standard s r e lo hi ks vs;
+      values = range-values-refuses layout32 standard s r e lo hi ks vs;
+    }
+
+pub demand-1-build : (ks vs : List ℕ) (h : ℕ) (out : List ℕ) (r : ℕ) → build layout32 ks vs h (length out) ≡ refuses r → outAfter layout32 ks vs h out ≡ out
+unfolding outAfter
+demand-1-build ks vs h out r e = ap (λ (a : Answer ℕ). outBy layout32 a h (pairs ks vs) out) e
+
+-- ---- demand 2: "they equal the crate's .. proved from its definitions". The definitions of check, lookup and walk are transliterations of the
+-- crate's `verify`, `get_key_value_raw` and `visit_raw`; the range and the builder are proved equal to theirs.
+
+-- What the crate's iterator gives, on certified bytes and bounds that do not cross.
+pub demand-2-range : (s : List ℕ) (n : ℕ) → counted (certify layout32 standard s) ≡ gives n → (lo hi : Bound) → crosses lo hi ≡ false
+    → Yields layout32 standard s (new layout32 standard s lo hi) (range layout32 standard s lo hi)
+demand-2-range s n e lo hi c = range-yields layout32 standard s (lit≤ tt) (is-certified layout32 standard s n e) lo hi c
+
+-- The crate's loop leaves the archive's bytes.
+pub demand-2-build : (header : List ℕ) (es : List Pair) → streamed layout32 header es ≡ archive layout32 header es
+demand-2-build header es = streamed-archive layout32 (lit≤ tt) header es
+
+-- ---- demand 3, "Whatever bytes are handed in as an archive: if the check accepts them"
+
+module _ (s : List ℕ) (n : ℕ) (accepts : counted (checkArchive layout32 standard s) ≡ gives n) where
+  -- "no reachable node leaves the bytes before the record, is misaligned"
+  pub demand-3-inside : {f : ℕ} → Field layout32 s f → Lands layout32 s 0 (root layout32 s) f
+  demand-3-inside x = field-lands layout32 standard s (is-archive layout32 standard s n accepts) x
+
+  -- ", shares a byte with another"
+  pub demand-3-apart : {f f′ : ℕ} → Field layout32 s f → Field layout32 s f′ → f ≢ f′ → Apart layout32 s f f′
+  demand-3-apart x x′ ne = field-apart layout32 standard s (is-archive layout32 standard s n accepts) x x′ ne
+
+  -- "or is reached twice"
+  pub demand-3-once : {f f′ q : ℕ} → Field layout32 s f → Field layout32 s f′ → target layout32 s f ≡ at q → target layout32 s f′ ≡ at q → f ≡ f′
+  demand-3-once x x′ e e′ = field-once layout32 standard s (is-archive layout32 standard s n accepts) x x′ e e′
+
+  -- "the archive's list .. has exactly the recorded count", which check answers
+  pub demand-3-count : (length (list layout32 standard s) ≡ n) × (n ≡ recorded layout32 s)
+  demand-3-count =
+      let e = is-recorded layout32 standard s n accepts in
+      (list-length layout32 standard s (is-archive layout32 standard s n accepts) ∙ sym e, e)
+
+  -- "and the walk writes it in order as far as the lent lists go"
+  pub record Walked (ks vs : List ℕ) : Type 0 where
+    pub answer : walkCall layout32 standard s ks vs ≡ gives (record { written = written (list layout32 standard s) ks vs; count = n })
+    pub keys : walkKeys layout32 standard s ks vs ≡ keysAfter (list layout32 standard s) ks vs
+    pub values : walkValues layout32 standard s ks vs ≡ valuesAfter (list layout32 standard s) ks vs
+
+  pub demand-3-walk : (ks vs : List ℕ) → Walked ks vs
+  demand-3-walk ks vs =
+      record {
+        answer = walk-accepted layout32 standard s n accepts ks vs;
+        keys = walk-keys-accepted layout32 standard s n accepts ks vs;
+        values = walk-values-accepted layout32 standard s n accepts ks vs;
+      }
+
+  -- "Accepted bytes are certified exactly when that list's keys strictly ascend and no reachable node is hollow."
+  pub demand-3-certified : (counted (certify layout32 standard s) ≡ gives n) ↔ (Ascending (list layout32 standard s) × Solid layout32 s)
+  demand-3-certified = certified-exactly layout32 standard s n accepts
+
+-- "On certified ones"
+module _ (s : List ℕ) (n : ℕ) (certifies : counted (certify layout32 standard s) ≡ gives n) where
+  -- "for every key, lookup finds exactly the list's entry with that key, or nothing": what it answers, that an entry which it finds is the list's and
+  -- has the key, that every entry of the list is found by its key, and that where it finds nothing no entry has the key.
+  pub record Looked (k : ℕ) : Type 0 where
+    pub answer : lookupCall layout32 standard s k ≡ gives (find k (list layout32 standard s))
+    pub part : bytesCall layout32 standard s k ≡ bytesOf s (find k (list layout32 standard s))
+    pub hit : (e : Entry) → find k (list layout32 standard s) ≡ found e → In e (list layout32 standard s) × (e .key ≡ k)
+    pub only : (e : Entry) → In e (list layout32 standard s) → e .key ≡ k → find k (list layout32 standard s) ≡ found e
+    pub miss : find k (list layout32 standard s) ≡ nothing → (e : Entry) → In e (list layout32 standard s) → e .key ≢ k
+
+  pub demand-3-lookup : (k : ℕ) → Looked k
+  demand-3-lookup k =
+      let C = is-certified layout32 standard s n certifies in
+      let a = certified-accepts layout32 standard s n certifies in
+      let e = lookup-certified layout32 standard s C k in
+      let l = list layout32 standard s in
+      record {
+        answer = lookup-accepted layout32 standard s n a k ∙ ap gives e;
+        part = bytes-accepted layout32 standard s n a k ∙ ap (bytesOf s) e;
+        hit = find-found k l;
+        only = λ x i ek. ap (λ (j : ℕ). find j l) (sym ek) ∙ find-one l (C .ascending) x i;
+        miss = find-nothing k l;
+      }
+
+  -- "and for every two bounds the range gives the number of entries that meet both and writes exactly these, in order as far as the lent lists go"
+  pub record Ranged (lo hi : Bound) (ks vs : List ℕ) : Type 0 where
+    pub answer : rangeCall layout32 standard s lo hi ks vs ≡ gives (record { written = written (range layout32 standard s lo hi) ks vs; matching = length (range layout32 standard s lo hi) })
+    pub keys : rangeKeys layout32 standard s lo hi ks vs ≡ keysAfter (range layout32 standard s lo hi) ks vs
+    pub values : rangeValues layout32 standard s lo hi ks vs ≡ valuesAfter (range layout32 standard s lo hi) ks vs
+
+  pub demand-3-range : (lo hi : Bound) (ks vs : List ℕ) → Ranged lo hi ks vs
+  demand-3-range lo hi ks vs =
+      record {
+        answer = range-certified layout32 standard s n certifies lo hi ks vs;
+        keys = range-keys-certified layout32 standard s n certifies lo hi ks vs;
+        values = range-values-certified layout32 standard s n certifies lo hi ks vs;
+      }
+
+-- "And for every strictly ascending list that the builder takes, behind whatever header, the archive is certified, and its list has the given keys
+-- and values, entry for entry." The output is the header, the archive behind it, and the bytes past it as they were; 15 and 16 never arise.
+module _ (ks vs : List ℕ) (out : List ℕ) (h n : ℕ) (wk : AllWords ks) (wv : AllWords vs) (takes : build layout32 ks vs h (length out) ≡ gives n) where
+  pub record BuiltArchive : Type 0 where
+    pub output : outAfter layout32 ks vs h out ≡ archive layout32 (take h out) (pairs ks vs) ++ drop n out
+    pub certifies : Certifies (take h out) ks vs n
+    pub offsets : Offsets h (treeOf layout32 (pairs ks vs))
+
+  pub demand-3-build : BuiltArchive
+  demand-3-build =
+      let T = taken layout32 ks vs h (length out) n takes in
+      let eh : length (take h out) ≡ h = length-take-le h out (omega (arith, T .fits, T .size)) in
+      record {
+        output = build-output layout32 ks vs h out n takes;
+        certifies = build-certifies (take h out) ks vs (length out) n wk wv (ap (λ (x : ℕ). build layout32 ks vs x (length out)) eh ∙ takes);
+        offsets = build-emplaces ks vs h (length out) n wk wv takes;
+      }
