@@ -4,10 +4,12 @@
 use Prim.Native.Nat.{ℕ}
 use mathlib.Core.List.{List, []}
 use lib.ListN.{length}
+use lib.IntN.{ℤ}
 use Rattle.format.specs.declared.Found.{Found}
 use Rattle.format.specs.declared.Bound.{Bound}
 use Rattle.format.specs.Layout.{Layout, Limits}
-use Rattle.format.specs.Refusal.{Answer, gives, refuses}
+use Rattle.format.specs.Refusal.{Answer, gives, refuses, andThen}
+use Rattle.format.specs.Key.{Column, columnBounds}
 use Rattle.format.specs.Check.{Checked, accepted, refused, checkArchive}
 use Rattle.format.specs.Entries.{list}
 use Rattle.format.specs.Certify.{certify}
@@ -60,3 +62,18 @@ module _ (L : Layout) (M : Limits) (s : List ℕ) where
 
     unfoldable pub rangeValues : List ℕ
     rangeValues = elim (certify L M s) [ accepted n start ↦ valuesAfter (range L M s lo hi) ks vs | refused r ↦ vs ]
+
+  -- A column query on an archive: the range of its two bounds. Of the refusals certify's come first, then 18.
+  module _ (exam eye : ℕ) (a b : ℤ) (ks vs : List ℕ) where
+    unfoldable pub columnCall : Answer Matched
+    columnCall =
+        elim (certify L M s) [
+          | accepted n start ↦ andThen (columnBounds exam eye a b) (λ (c : Column). rangeCall (c .lower) (c .upper) ks vs)
+          | refused r ↦ refuses r
+        ]
+
+    unfoldable pub columnKeys : List ℕ
+    columnKeys = elim (columnBounds exam eye a b) [ gives c ↦ rangeKeys (c .lower) (c .upper) ks vs | refuses r ↦ ks ]
+
+    unfoldable pub columnValues : List ℕ
+    columnValues = elim (columnBounds exam eye a b) [ gives c ↦ rangeValues (c .lower) (c .upper) ks vs | refuses r ↦ vs ]

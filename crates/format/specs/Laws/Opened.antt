@@ -7,6 +7,7 @@ use mathlib.Core.List.{List, []}
 use mathlib.Core.Logic.{_↔_}
 use native.Mathlib.Omega.{arith}
 use lib.ListN.{length}
+use lib.IntN.{ℤ}
 use Rattle.format.specs.declared.Entry.{Entry}
 use Rattle.format.specs.declared.Found.{Found}
 use Rattle.format.specs.declared.Bound.{Bound}
@@ -14,13 +15,14 @@ use Rattle.format.specs.declared.Found.the-variants.{Nothing as nothing}
 use Rattle.format.specs.Layout.{Layout, recordSize, Limits, nested}
 use Rattle.format.specs.Refusal.{gives, refuses}
 use Rattle.format.specs.RelPtr.{at, target}
+use Rattle.format.specs.Key.{Column, columnBounds}
 use Rattle.format.specs.Check.{Checked, accepted, refused, counted, root, recorded, checkArchive}
 use Rattle.format.specs.Entries.{listAt, listOf, list}
 use Rattle.format.specs.Certify.{Ascending, ascends, Solid, hollowAt, hollowOf, certify}
 use Rattle.format.specs.Lookup.{bytesOf, lookupAt, lookupOf, lookup}
 use Rattle.format.specs.Range.{matches, select, range}
 use Rattle.format.specs.Written.{written, keysAfter, valuesAfter}
-use Rattle.format.specs.Calls.{lookupCall, bytesCall, walkCall, walkKeys, walkValues, rangeCall, rangeKeys, rangeValues}
+use Rattle.format.specs.Calls.{lookupCall, bytesCall, walkCall, walkKeys, walkValues, rangeCall, rangeKeys, rangeValues, columnCall, columnKeys, columnValues}
 use Rattle.format.specs.Laws.Archive.{Rooted, Archive, archive}
 use Rattle.format.specs.Laws.Certify.{Certified, certified, certify-accepts, certify-hollow, certify-order, certify-passes, certify-refused, exactly}
 use Rattle.format.specs.Laws.Node.{Down, Node, root-down, root-node}
@@ -329,3 +331,40 @@ module _ (L : Layout) (M : Limits) (s : List ℕ) where
 
         pub range-values-gives : rangeValues L M s lo hi ks vs ≡ vs′
         range-values-gives = values-answers _ range-root m em ks′ vs′ w ew
+
+  -- ---- a column query, by what the bounds and certify answer
+
+  module _ (exam eye : ℕ) (a b : ℤ) (ks vs : List ℕ) where
+    module _ (c : Column) (e : columnBounds exam eye a b ≡ gives c) where
+      pub column-ranges : columnCall L M s exam eye a b ks vs ≡ rangeCall L M s (c .lower) (c .upper) ks vs
+      unfolding columnCall
+      column-ranges = by (certify L M s) refl
+        where
+          by : (x : Checked) → certify L M s ≡ x → columnCall L M s exam eye a b ks vs ≡ rangeCall L M s (c .lower) (c .upper) ks vs
+          by (accepted n t) ex = rw (ex, columnCall, e)
+          by (refused r) ex = rw (ex, columnCall) (sym (range-refuses r (ap counted ex) (c .lower) (c .upper) ks vs))
+
+      pub column-keys-ranges : columnKeys L M s exam eye a b ks vs ≡ rangeKeys L M s (c .lower) (c .upper) ks vs
+      unfolding columnKeys
+      column-keys-ranges = rw (e, columnKeys)
+
+      pub column-values-ranges : columnValues L M s exam eye a b ks vs ≡ rangeValues L M s (c .lower) (c .upper) ks vs
+      unfolding columnValues
+      column-values-ranges = rw (e, columnValues)
+
+    module _ (q : ℕ) (e : columnBounds exam eye a b ≡ refuses q) where
+      pub column-uncertified : (r : ℕ) → counted (certify L M s) ≡ refuses r → columnCall L M s exam eye a b ks vs ≡ refuses r
+      unfolding columnCall
+      column-uncertified r u = rw (refuses-inv (certify L M s) r u, columnCall)
+
+      pub column-refused : (n : ℕ) → counted (certify L M s) ≡ gives n → columnCall L M s exam eye a b ks vs ≡ refuses q
+      unfolding columnCall
+      column-refused n u = rw (gives-inv (certify L M s) n u .1, columnCall, e)
+
+      pub column-keys-refused : columnKeys L M s exam eye a b ks vs ≡ ks
+      unfolding columnKeys
+      column-keys-refused = rw (e, columnKeys)
+
+      pub column-values-refused : columnValues L M s exam eye a b ks vs ≡ vs
+      unfolding columnValues
+      column-values-refused = rw (e, columnValues)
