@@ -1,0 +1,19 @@
+-- `btree::node::child_at` meets its contract. Assumes nothing.
+use Rattle.format.specs.Layout.{layout32}
+use Rattle.btree.proofs.Back.{field-absent, field-down, field-there}
+use borrow.Author.Needs.{needs}
+use Rattle.btree.proofs.node.child_at.Statement.{statement}
+use Rattle.btree.proofs.node.child_at.Tie as tie
+
+returns : tie.Need-returns
+returns c = search field-absent
+
+pointed-requires : tie.Need-pointed-requires
+pointed-requires c κs = (search needs, field-down layout32 _ _ _ _ (c .before .before .before .pre .0) (c .before .before .before .pre .1) (c .before .u32-at .ensures) (c .if1 .left))
+
+returns-2 : tie.Need-returns-2
+returns-2 c = search field-there
+
+pub child-at-spec : {M : Type 1} → statement M
+child-at-spec =
+    tie.close (tie.spec (search needs) (search needs) (search needs) (search needs) returns pointed-requires returns-2)

@@ -1,0 +1,2 @@
+// Readers over an archive that the check has accepted.
+pub mod node;
