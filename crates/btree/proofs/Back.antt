@@ -1,11 +1,10 @@
 -- Where a field leads that leads back, in the numbers of the code, and what the code reads of a child. Assumes nothing.
 use mathlib.Core.Path.{_≡_, refl, sym, ap, _∙_}
-use mathlib.Core.Bool.{false}
+use mathlib.Core.Bool.{Bool, true, false}
 use mathlib.Core.List.{List}
 use Prim.Native.Nat.{ℕ, suc, _+_, _-_, _^_, _≤_, _<_}
 use native.Mathlib.Decide.{decLt}
 use native.Mathlib.Omega.{arith}
-use borrow.Author.Tests.{eq-eqb, ne-eqb}
 use lib.IntN.{pos, negsuc, _+ℤ_}
 use Rattle.format.specs.declared.Position.{Position}
 use Rattle.format.specs.declared.Child.{Child}
@@ -51,18 +50,13 @@ module _ (L : Layout) (s : List ℕ) where
     pub down-is : target L s f ≡ at (f + x - 2 ^ suc (signBits (L .width)))
     down-is = d .leads ∙ ap at (back .is)
 
-  -- x is what the code reads at field i of the inner node at p.
-  module _ (p i x : ℕ) where
-    pub field-absent : x ≡ leAt (pointer L) s (child L p i) → x ≡ 1 → Absent ≡ childAt L s (child L p i)
-    unfolding absent
-    field-absent e h = sym (child-absent L s (child L p i) (eq-eqb _ _ (sym e ∙ h)))
+  -- b is what the code reads at field i of the inner node at p: whether the child is absent.
+  module _ (p i : ℕ) (b : Bool) (e : b ≡ absent L s (child L p i)) where
+    pub field-absent : b ≡ true → Absent ≡ childAt L s (child L p i)
+    field-absent h = sym (child-absent L s (child L p i) (sym e ∙ h))
 
-    present : x ≡ leAt (pointer L) s (child L p i) → (x ≡ 1 → ⊥) → absent L s (child L p i) ≡ false
-    unfolding absent
-    present e h = ne-eqb _ _ (λ z. h (e ∙ z))
+    pub field-down : InnerNode L s p → i ≤ L .entries → b ≡ false → Down L s (child L p i) (child L p i)
+    field-down n le h = let d = n .back i le (sym e ∙ h) in let l = d .lower in record { node = d .node; leads = d .leads; lower = omega arith }
 
-    pub field-down : InnerNode L s p → i ≤ L .entries → x ≡ leAt (pointer L) s (child L p i) → (x ≡ 1 → ⊥) → Down L s (child L p i) (child L p i)
-    field-down n le e h = let d = n .back i le (present e h) in let l = d .lower in record { node = d .node; leads = d .leads; lower = omega arith }
-
-    pub field-there : (q : Position) → x ≡ leAt (pointer L) s (child L p i) → (x ≡ 1 → ⊥) → target L s (child L p i) ≡ at (q .0) → At q ≡ childAt L s (child L p i)
-    field-there q e h t = sym (child-there L s (child L p i) (q .0) (present e h) t)
+    pub field-there : (q : Position) → b ≡ false → target L s (child L p i) ≡ at (q .0) → At q ≡ childAt L s (child L p i)
+    field-there q h t = sym (child-there L s (child L p i) (q .0) (sym e ∙ h) t)

@@ -1,6 +1,7 @@
 // What all readers read of an accepted node: where a child's field leads, and a slot.
 use fields::primitive::u32_at;
 use fields::primitive::u64_at;
+use fields::rel_ptr::is_invalid_at;
 use format::Child;
 use format::Entry;
 use format::Layout;
@@ -15,11 +16,12 @@ ghost use Rattle.format.specs.Laws.Children.{childAt};
 ghost use Rattle.format.specs.Laws.Node.{InnerNode, Down};
 ghost use Rattle.format.specs.Laws.Written.{out, put};
 
-// Where the field at f leads, which is before f: the offset's bits are 2^32 less the distance.
-pub fn pointed(archive: &[u8], f: usize) -> Position
-    requires { ⌜ (f + pointer layout32 ≤ length (now archive)) × Down layout32 (now archive) f f ⌝ }
-    ensures { λ r. ⌜ target layout32 (now (archive .entry)) f ≡ at (r .0) ⌝ }
+// Where a field leads that leads back: the bits of its offset are 2^32 less the distance.
+pub fn pointed(archive: &[u8], field: Position) -> Position
+    requires { ⌜ (field .0 + pointer layout32 ≤ length (now archive)) × Down layout32 (now archive) (field .0) (field .0) ⌝ }
+    ensures { λ r. ⌜ target layout32 (now (archive .entry)) (field .0) ≡ at (r .0) ⌝ }
 {
+    let f = field.0;
     let bits = u32_at(archive, f) as usize;
     Position(f + bits - 0x1_0000_0000)
 }
@@ -30,11 +32,11 @@ pub fn child_at(archive: &[u8], pos: Position, i: usize) -> Child
     ensures { λ r. ⌜ r ≡ childAt layout32 (now (archive .entry)) (child layout32 (pos .0) i) ⌝ }
 {
     let p = pos.0;
-    let f = p + Layout::NODE + Layout::POINTER * i;
-    if u32_at(archive, f) == 1 {
+    let field = Position(p + Layout::NODE + Layout::POINTER * i);
+    if is_invalid_at(archive, field) {
         return Child::Absent;
     }
-    Child::At(pointed(archive, f))
+    Child::At(pointed(archive, field))
 }
 
 pub fn slot(archive: &[u8], pos: Position, i: usize) -> Entry

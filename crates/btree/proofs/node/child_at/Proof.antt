@@ -9,11 +9,14 @@ returns : tie.Need-returns
 returns c = search field-absent
 
 pointed-requires : tie.Need-pointed-requires
-pointed-requires c κs = (search needs, field-down layout32 _ _ _ _ (c .before .before .before .pre .0) (c .before .before .before .pre .1) (c .before .u32-at .ensures) (c .if1 .left))
+pointed-requires c κs =
+    let s = c .before .before .before in
+    (search needs, field-down layout32 _ _ _ _ (c .before .is-invalid-at .ensures) (s .pre .0) (s .pre .1) (c .if1 .left))
 
 returns-2 : tie.Need-returns-2
 returns-2 c = search field-there
 
 pub child-at-spec : {M : Type 1} → statement M
 child-at-spec =
-    tie.close (tie.spec (search needs) (search needs) (search needs) (search needs) returns pointed-requires returns-2)
+    tie.close
+    (tie.spec (search needs) (search needs) (search needs) (search needs) returns pointed-requires returns-2)
