@@ -1,15 +1,14 @@
 -- Where a field leads that leads back, in the numbers of the code, and what the code reads of a child. Assumes nothing.
-use mathlib.Core.Path.{_≡_, refl, sym, ap, _∙_}
+use mathlib.Core.Path.{_≡_, sym, ap, _∙_}
 use mathlib.Core.Bool.{Bool, true, false}
 use mathlib.Core.List.{List}
 use Prim.Native.Nat.{ℕ, suc, _+_, _-_, _^_, _≤_, _<_}
 use native.Mathlib.Decide.{decLt}
 use native.Mathlib.Omega.{arith}
-use lib.IntN.{pos, negsuc, _+ℤ_}
+use lib.IntN.{pos, _+ℤ_}
 use Rattle.format.specs.declared.Position.{Position}
-use Rattle.format.specs.declared.Child.{Child}
 use Rattle.format.specs.declared.Child.the-variants.{At, Absent}
-use Rattle.format.specs.Layout.{Layout, pointer, headSize, signBits}
+use Rattle.format.specs.Layout.{Layout, pointer, signBits}
 use Rattle.format.specs.Bytes.{leAt}
 use Rattle.format.specs.Signed.{ofTwos}
 use Rattle.format.specs.RelPtr.{at, below, position, target, absent}

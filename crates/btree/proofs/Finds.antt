@@ -1,6 +1,6 @@
 -- The lookup: what the scan of a node's slots keeps, what the loop down the tree keeps, and that a value that is found lies within the bytes. Assumes
 -- nothing.
-use mathlib.Core.Path.{_≡_, refl, sym, ap, _∙_}
+use mathlib.Core.Path.{_≡_, refl, sym, _∙_}
 use Prim.Native.Nat.{ℕ, zero, suc, _+_, _-_, _≤_, _<_}
 use native.Mathlib.Omega.{arith}
 use native.Mathlib.Nat.{sub-zero}
@@ -16,10 +16,10 @@ use Rattle.format.specs.declared.Found.{Found}
 use Rattle.format.specs.declared.Found.the-variants.{Entry as found, Nothing as nothing}
 use Rattle.format.specs.Layout.{Layout, headSize, Limits, nested}
 use Rattle.format.specs.Bytes.{leAt}
-use Rattle.format.specs.Node.{leaf, inner, child, keyAt, kind, leafCount, slot}
+use Rattle.format.specs.Node.{leaf, inner, child, keyAt, leafCount, slot}
 use Rattle.format.specs.Lookup.{Order, less, equal, greater, order, lookupSlots, lookupChildren, lookupBody, lookupAt, bytesOf}
 use Rattle.format.specs.Laws.Children.{Leads, childAt, onChild, on-at, on-absent, look-child, child-leads}
-use Rattle.format.specs.Laws.Node.{Node, NodeGood, leafG, innerG, Good, LeafNode, InnerNode, kind-leaf, as-leaf, as-inner, lookup-node}
+use Rattle.format.specs.Laws.Node.{Node, leafG, innerG, Good, LeafNode, InnerNode, kind-leaf, as-leaf, as-inner, lookup-node}
 use Rattle.btree.specs.Seek.{seekAt}
 use Rattle.btree.specs.declared.map.Seek.{Seek}
 use Rattle.btree.specs.declared.map.Seek.the-variants.{Equal, Less}

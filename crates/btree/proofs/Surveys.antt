@@ -1,6 +1,6 @@
 -- The pass of certification: what it keeps of the keys' order and of the flag for hollow nodes. Assumes nothing.
 use mathlib.Core.Path.{_≡_, refl, sym, ap, _∙_}
-use Prim.Native.Nat.{ℕ, zero, suc, _+_, _-_, _≤_, _<_}
+use Prim.Native.Nat.{ℕ, suc, _+_, _-_, _≤_, _<_}
 use native.Mathlib.Omega.{arith}
 use native.Mathlib.Nat.{sub-zero}
 use native.Mathlib.Numerals.{add-one}
@@ -15,7 +15,7 @@ use Rattle.format.specs.declared.Child.{Child}
 use Rattle.format.specs.declared.Child.the-variants.{At, Absent}
 use Rattle.format.specs.Layout.{Layout, headSize, Limits, nested}
 use Rattle.format.specs.RelPtr.{absent}
-use Rattle.format.specs.Node.{leaf, inner, child, kind, leafCount}
+use Rattle.format.specs.Node.{child, kind, leafCount}
 use Rattle.format.specs.Certify.{hollow, anyChild, anyChildren, anyBody, hollowAt, ascendsFrom, ascends}
 use Rattle.format.specs.Laws.Children.{childAt, onChild, on-at, on-absent, any-child, hollowBody}
 use Rattle.format.specs.Laws.Node.{Node, kind-leaf, as-inner, hollow-node}
@@ -138,9 +138,6 @@ module _ (L : Layout) (s : List ℕ) where
       ∙ ap (either h) (sym (any-more any p n i l)) ∙ q
 
   -- ---- the node itself: h₀ is the flag before it
-
-  pub own-known : (p : ℕ) (h₀ : Bool) → h₀ ≡ true → true ≡ either h₀ (hollow L s p (kind L s p))
-  own-known p h₀ e = rw e
 
   pub own-leaf : (p x : ℕ) (h₀ : Bool) → h₀ ≡ false → getD s p 0 ≡ 0 → x ≡ leafCount L s p → eqb x 0 ≡ either h₀ (hollow L s p (kind L s p))
   unfolding hollow

@@ -1,5 +1,5 @@
 -- The scan of a node's slots for a key, as `seek_slot` answers it. Assumes nothing: these are definitions.
-use Prim.Native.Nat.{ℕ, zero, suc, _+_}
+use Prim.Native.Nat.{ℕ, zero, suc}
 use mathlib.Core.List.{List}
 use Rattle.format.specs.Layout.{Layout}
 use Rattle.format.specs.Node.{slot}

@@ -91,7 +91,7 @@ pub fn visit(archive: &[u8], root: Position, keys: &mut [u64], values: &mut [u64
 
 // Of a node's slots, the first whose key is not below the one sought: that key itself, or one above it, which stands at n where there is
 // none.
-pub enum Seek {
+enum Seek {
     Equal(usize),
     Less(usize),
 }

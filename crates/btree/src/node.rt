@@ -27,7 +27,7 @@ pub fn pointed(archive: &[u8], field: Position) -> Position
 }
 
 // The child that field i of an inner node leads to; the field after the lesser children's is the greater child's.
-pub fn child_at(archive: &[u8], pos: Position, i: usize) -> Child
+pub(crate) fn child_at(archive: &[u8], pos: Position, i: usize) -> Child
     requires { ⌜ InnerNode layout32 (now archive) (pos .0) × (i ≤ layout32 .entries) ⌝ }
     ensures { λ r. ⌜ r ≡ childAt layout32 (now (archive .entry)) (child layout32 (pos .0) i) ⌝ }
 {
@@ -39,7 +39,7 @@ pub fn child_at(archive: &[u8], pos: Position, i: usize) -> Child
     Child::At(pointed(archive, field))
 }
 
-pub fn slot(archive: &[u8], pos: Position, i: usize) -> Entry
+pub(crate) fn slot(archive: &[u8], pos: Position, i: usize) -> Entry
     requires { ⌜ (pos .0 + headSize layout32 ≤ length (now archive)) × (i < layout32 .entries) ⌝ }
     ensures { λ r. ⌜ r ≡ slot layout32 (now (archive .entry)) (pos .0) i ⌝ }
 {
@@ -53,7 +53,7 @@ pub fn slot(archive: &[u8], pos: Position, i: usize) -> Entry
 }
 
 // Writes slot i at index `at` of both lists, where both have room.
-pub fn visit_key_value_raw(
+pub(crate) fn visit_key_value_raw(
     archive: &[u8],
     pos: Position,
     i: usize,

@@ -1,10 +1,8 @@
+-- `btree::certify::certify` meets its contract. Assumes nothing.
 use Rattle.btree.proofs.Surveys.{order-done}
 use borrow.Author.Needs.{needs}
 use Rattle.btree.proofs.certify.certify.Statement.{statement}
 use Rattle.btree.proofs.certify.certify.Tie as tie
-use Rattle.btree.proofs.certify.certify.Reads as reads
-use Rattle.btree.proofs.certify.certify.Lts as lts
-use Rattle.btree.proofs.certify.certify_raw.Reads as certify-raw-reads
 
 certify-raw-requires : tie.Need-certify-raw-requires
 certify-raw-requires c κs = search needs

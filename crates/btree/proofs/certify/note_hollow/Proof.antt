@@ -1,3 +1,4 @@
+-- `btree::certify::note_hollow` meets its contract. Assumes nothing.
 use native.Mathlib.Omega.{arith}
 use Rattle.format.specs.Layout.{layout32}
 use Rattle.format.specs.Laws.Node.{node-room}
@@ -5,10 +6,6 @@ use Rattle.btree.proofs.Surveys.{own-leaf, own-inner}
 use borrow.Author.Needs.{needs}
 use Rattle.btree.proofs.certify.note_hollow.Statement.{statement}
 use Rattle.btree.proofs.certify.note_hollow.Tie as tie
-use Rattle.btree.proofs.certify.note_hollow.Reads as reads
-use Rattle.btree.proofs.certify.note_hollow.Lts as lts
-use Rattle.fields.proofs.primitive.u32_at.Reads as u32-at-reads
-use Rattle.fields.proofs.rel_ptr.is_invalid_at.Reads as is-invalid-at-reads
 
 returns : tie.Need-returns
 returns c = search needs

@@ -1,8 +1,7 @@
+-- `btree::certify::note_key` meets its contract. Assumes nothing.
 use Rattle.btree.proofs.Surveys.{after-not-above, after-above, after-none}
 use Rattle.btree.proofs.certify.note_key.Statement.{statement}
 use Rattle.btree.proofs.certify.note_key.Tie as tie
-use Rattle.btree.proofs.certify.note_key.Reads as reads
-use Rattle.btree.proofs.certify.note_key.Lts as lts
 
 returns : tie.Need-returns
 returns c = search after-not-above

@@ -1,6 +1,6 @@
 -- `btree::node::visit_key_value_raw` meets its contract. Assumes nothing.
 use Rattle.format.specs.Laws.Written.{put-room, put-keys-full, put-values-full}
-use mathlib.Core.Path.{_≡_, sym, _∙_}
+use mathlib.Core.Path.{sym}
 use borrow.Author.Needs.{needs}
 use Rattle.btree.proofs.node.visit_key_value_raw.Statement.{statement}
 use Rattle.btree.proofs.node.visit_key_value_raw.Tie as tie
