@@ -1,1 +1,167 @@
-// The public calls.
+// The calls of the archived field map. Any bytes, lists, positions and lengths may be passed: each call answers, or gives a listed refusal and
+// leaves what was lent as it was.
+use btree::node::pointed;
+use fields::rel_ptr::Distance;
+use fields::rel_ptr::Stored;
+use fields::ser::writer::Aligned;
+use format::CheckAnswer;
+use format::Entry;
+use format::Found;
+use format::Layout;
+use format::Position;
+use format::Refusal;
+use perimetry::key::KeyFields;
+use perimetry::key::Packed;
+ghost use mathlib.Core.Path.{_≡_};
+ghost use Rattle.format.specs.Layout.{layout32, standard};
+ghost use Rattle.format.specs.Refusal.{checkOf};
+ghost use Rattle.format.specs.RelPtr.{signedOffset, storedOffset, absentOffset};
+ghost use Rattle.format.specs.Align.{alignStep};
+ghost use Rattle.format.specs.Key.{packKey, fieldsOf};
+ghost use Rattle.format.specs.Check.{counted, checkArchive};
+ghost use Rattle.format.specs.Certify.{certify};
+ghost use Rattle.format.specs.Calls.{lookupCall, bytesCall, walkCall, walkKeys, walkValues};
+ghost use Rattle.fields.specs.Answers.{distanceOf, storedOf, alignedOf};
+ghost use Rattle.perimetry.specs.Answers.{packedOf, unpackedOf};
+ghost use Rattle.fieldmap.specs.Answers.{lookupOf, walkOf};
+
+pub enum LookupAnswer {
+    Entry(Entry),
+    Nothing,
+    Refused(Refusal),
+}
+
+// The number written and the recorded count.
+pub enum WalkAnswer {
+    Walked(usize, usize),
+    Refused(Refusal),
+}
+
+// The number written and the number matching.
+pub enum RangeAnswer {
+    Matched(usize, usize),
+    Refused(Refusal),
+}
+
+// The recorded count, or the first fault of 1 to 7.
+pub fn check(archive: &[u8]) -> CheckAnswer
+    ensures { λ r. ⌜ checkOf r ≡ counted (checkArchive layout32 standard (now (archive .entry))) ⌝ }
+{
+    validation::check::check(archive)
+}
+
+// The recorded count, or the first fault of 1 to 9.
+pub fn certify(archive: &[u8]) -> CheckAnswer
+    ensures { λ r. ⌜ checkOf r ≡ counted (certify layout32 standard (now (archive .entry))) ⌝ }
+{
+    match validation::check::check(archive) {
+        CheckAnswer::Refused(why) => CheckAnswer::Refused(why),
+        CheckAnswer::Accepted(count) => {
+            if count == 0 {
+                return CheckAnswer::Accepted(0);
+            }
+            let record = Position(archive.len() - Layout::RECORD);
+            let found = btree::certify::certify(archive, pointed(archive, record));
+            if found.hollow {
+                return CheckAnswer::Refused(Refusal::HollowNode);
+            }
+            if found.order.ascends {
+                return CheckAnswer::Accepted(count);
+            }
+            CheckAnswer::Refused(Refusal::KeysNotAscending)
+        }
+    }
+}
+
+// The entry with a key, on any accepted archive.
+pub fn lookup(archive: &[u8], key: u64) -> LookupAnswer
+    ensures { λ r. ⌜ lookupOf r ≡ lookupCall layout32 standard (now (archive .entry)) key ⌝ }
+{
+    match validation::check::check(archive) {
+        CheckAnswer::Refused(why) => LookupAnswer::Refused(why),
+        CheckAnswer::Accepted(count) => {
+            if count == 0 {
+                return LookupAnswer::Nothing;
+            }
+            let record = Position(archive.len() - Layout::RECORD);
+            let root = pointed(archive, record);
+            let Found::Entry(e) = btree::map::get_key_value_raw(archive, root, key) else {
+                return LookupAnswer::Nothing;
+            };
+            LookupAnswer::Entry(e)
+        }
+    }
+}
+
+// The eight bytes of its value, as a part of the archive; the empty part where there is none or the archive is refused.
+pub fn lookup_bytes<'a>(archive: &'a [u8], key: u64) -> &'a [u8]
+    ensures { λ r. ⌜ now r ≡ bytesCall layout32 standard (now (archive .entry)) key ⌝ }
+{
+    let CheckAnswer::Accepted(count) = validation::check::check(archive) else {
+        return &archive[0..0];
+    };
+    if count == 0 {
+        return &archive[0..0];
+    }
+    let record = Position(archive.len() - Layout::RECORD);
+    btree::map::get_bytes(archive, pointed(archive, record), key)
+}
+
+// Writes keys and values in the order of `visit` until the shorter list is full.
+pub fn walk(archive: &[u8], keys: &mut [u64], values: &mut [u64]) -> WalkAnswer
+    ensures answer { λ r. ⌜ walkOf r ≡ walkCall layout32 standard (now (archive .entry)) (now (keys .entry)) (now (values .entry)) ⌝ }
+    ensures keys { λ r. ⌜ now (keys .exit) ≡ walkKeys layout32 standard (now (archive .entry)) (now (keys .entry)) (now (values .entry)) ⌝ }
+    ensures values { λ r. ⌜ now (values .exit) ≡ walkValues layout32 standard (now (archive .entry)) (now (keys .entry)) (now (values .entry)) ⌝ }
+{
+    match validation::check::check(archive) {
+        CheckAnswer::Refused(why) => WalkAnswer::Refused(why),
+        CheckAnswer::Accepted(count) => {
+            if count == 0 {
+                return WalkAnswer::Walked(0, 0);
+            }
+            let record = Position(archive.len() - Layout::RECORD);
+            let written = btree::map::visit(archive, pointed(archive, record), keys, values);
+            WalkAnswer::Walked(written, count)
+        }
+    }
+}
+
+// The signed difference of two positions.
+pub fn signed_offset(from: u64, to: u64) -> Distance
+    ensures { λ r. ⌜ distanceOf r ≡ signedOffset from to ⌝ }
+{
+    fields::rel_ptr::signed_offset(from, to)
+}
+
+// The 32-bit offset from a field to a position.
+pub fn offset32(from: u64, to: u64) -> Stored
+    ensures { λ r. ⌜ storedOf r ≡ storedOffset 31 from to ⌝ }
+{
+    fields::rel_ptr::offset32(from, to)
+}
+
+// The offset that marks an absent pointer at a position.
+pub fn absent_offset(at: u64) -> Stored
+    ensures { λ r. ⌜ storedOf r ≡ absentOffset 31 at ⌝ }
+{
+    fields::rel_ptr::absent_offset(at)
+}
+
+// The next position on an alignment, and the zeros before it.
+pub fn align(pos: u64, alignment: u64) -> Aligned
+    ensures { λ r. ⌜ alignedOf r ≡ alignStep pos alignment ⌝ }
+{
+    fields::ser::writer::align(pos, alignment)
+}
+
+pub fn pack(examination: u32, eye: u8, x: i8, y: i8, presentation: u32) -> Packed
+    ensures { λ r. ⌜ packedOf r ≡ packKey examination eye x y presentation ⌝ }
+{
+    perimetry::key::pack(examination, eye, x, y, presentation)
+}
+
+pub fn unpack(key: u64) -> KeyFields
+    ensures { λ r. ⌜ unpackedOf r ≡ fieldsOf key ⌝ }
+{
+    perimetry::key::unpack(key)
+}

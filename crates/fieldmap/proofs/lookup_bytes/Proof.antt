@@ -1,0 +1,82 @@
+-- `fieldmap::lookup_bytes` meets its contract. Assumes nothing.
+use mathlib.Core.Path.{_≡_, sym, ap, _∙_}
+use native.Mathlib.Omega.{arith}
+use Rattle.format.specs.Layout.{layout32, standard}
+use Rattle.format.specs.Check.{counted, checkArchive}
+use Rattle.format.specs.Refusal.{number, gives, refuses, checkOf}
+use Rattle.format.specs.Laws.Opened.{room-for, root-back, node, bytes-refuses, bytes-none, bytes-gives}
+use borrow.Author.Needs.{needs}
+use Rattle.fieldmap.proofs.lookup_bytes.Statement.{statement}
+use Rattle.fieldmap.proofs.lookup_bytes.Tie as tie
+
+-- What the check told: accepted with the count, or refused.
+opened : (c : tie.After-count) → counted (checkArchive layout32 standard (c .before .before .before .before .args .archive .now)) ≡ gives (c .count .given .0 .0)
+opened c = sym (c .before .before .check .ensures) ∙ ap checkOf (c .count .given .1)
+
+shut : (c : tie.After-enum-told) → counted (checkArchive layout32 standard (c .before .before .before .before .args .archive .now)) ≡ refuses (number (c .enum-told .given .0 .0))
+shut c = sym (c .before .before .check .ensures) ∙ ap checkOf (c .enum-told .given .1)
+
+check-requires : tie.Need-check-requires
+check-requires c κs = search needs
+
+enum-known-count : tie.Need-enum-known-count
+enum-known-count c = search needs
+
+enum-told : tie.Need-enum-told
+enum-told c = search needs
+
+sub-result : tie.Need-sub-result
+sub-result c = search needs
+
+part-result-start : tie.Need-part-result-start
+part-result-start c = search needs
+
+part-result-end : tie.Need-part-result-end
+part-result-end c = search needs
+
+returns : tie.Need-returns
+returns c = sym (bytes-refuses layout32 standard _ _ (shut (c .before)) _)
+
+sub-result-2 : tie.Need-sub-result-2
+sub-result-2 c = search needs
+
+part-result-start-2 : tie.Need-part-result-start-2
+part-result-start-2 c = search needs
+
+part-result-end-2 : tie.Need-part-result-end-2
+part-result-end-2 c = search needs
+
+returns-2 : tie.Need-returns-2
+returns-2 c = sym (bytes-none layout32 standard _ _ (opened (c .before .before .before)) (c .before .if1 .taken) _)
+
+sub-t14 : tie.Need-sub-t14
+sub-t14 c = omega (arith, room-for layout32 standard _ _ (opened (c .before .before)))
+
+pointed-requires : tie.Need-pointed-requires
+pointed-requires c κs = (omega (arith, room-for layout32 standard _ _ (opened (c .before .before))), root-back layout32 standard _ _ (opened (c .before .before)) (c .if1 .left))
+
+get-bytes-requires : tie.Need-get-bytes-requires
+get-bytes-requires c κs = node layout32 standard _ _ (opened (c .before .before .before)) (c .before .if1 .left) _ (c .pointed .ensures)
+
+returns-3 : tie.Need-returns-3
+returns-3 c = c .get-bytes .ensures ∙ sym (bytes-gives layout32 standard _ _ (opened (c .before .before .before .before)) (c .before .before .if1 .left) _ (c .before .pointed .ensures) _)
+
+pub lookup-bytes-spec : {M : Type 1} → statement M
+lookup-bytes-spec =
+    tie.close
+    (tie.spec
+    check-requires
+    enum-known-count
+    enum-told
+    sub-result
+    part-result-start
+    part-result-end
+    returns
+    sub-result-2
+    part-result-start-2
+    part-result-end-2
+    returns-2
+    sub-t14
+    pointed-requires
+    get-bytes-requires
+    returns-3)
