@@ -254,12 +254,13 @@ module _ (L : Layout) (M : Limits) (s : List ℕ) where
   pub certified-exactly : (n : ℕ) → counted (checkArchive L M s) ≡ gives n → (counted (certify L M s) ≡ gives n) ↔ (Ascending (list L M s) × Solid L s)
   certified-exactly n e =
       let t = gives-inv (checkArchive L M s) n e .0 in
-      let accepts-n : checkArchive L M s ≡ accepted n t = gives-inv (checkArchive L M s) n e .1 in
-      (λ c.
-      let u = gives-inv (certify L M s) n c .0 in
-      let C = certified L M s n u (gives-inv (certify L M s) n c .1) .0 in
-      (C .ascending, C .solid),
-      λ h. ap counted (exactly L M s n t accepts-n .1 h))
+      let accepts-n : checkArchive L M s ≡ accepted n t = gives-inv (checkArchive L M s) n e .1 in (
+        λ c.
+            let u = gives-inv (certify L M s) n c .0 in
+            let C = certified L M s n u (gives-inv (certify L M s) n c .1) .0 in
+            (C .ascending, C .solid),
+        λ h. ap counted (exactly L M s n t accepts-n .1 h),
+      )
 
   -- ---- bytes that certify accepts
 
