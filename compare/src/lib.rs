@@ -1,0 +1,10 @@
+//! rkyv's archived B-tree map as the oracle for the archived field map, and a second reading of document 01 beside it.
+
+pub mod by_hand;
+pub mod cases;
+pub mod counts;
+pub mod model;
+#[cfg(feature = "ours")]
+pub mod ours;
+pub mod rkyv_map;
+pub mod trees;

@@ -1,0 +1,249 @@
+//! The oracle itself: rkyv and the model give what document 01 says.
+
+use std::mem::MaybeUninit;
+use std::ops::Bound;
+
+use compare::by_hand::Output;
+use compare::rkyv_map::{build, by_key, Accepted, Archive};
+use compare::{cases, model};
+use rkyv::rancor::BoxedError;
+use rkyv::rel_ptr::{signed_offset, RawRelPtrI32};
+use rkyv::ser::WriterExt;
+use rkyv::Place;
+
+/// rkyv's check, as a number.
+fn check(bytes: &[u8]) -> Result<u32, u8> {
+    Archive::copy(bytes)
+        .check()
+        .map(|accepted| accepted.count())
+}
+
+/// What rkyv builds of the keys 1 to `count`, each its own value, behind `header` bytes.
+fn built(count: u64, header: usize) -> Vec<u8> {
+    let keys: Vec<u64> = (1..=count).collect();
+    build(&vec![0xff; header], &keys, &keys)
+}
+
+fn offset_at(bytes: &[u8], field: usize) -> i32 {
+    i32::from_le_bytes(bytes[field..field + 4].try_into().unwrap())
+}
+
+/// An offset as rkyv stores it in a field at one position that leads to another.
+fn stored(from: usize, to: usize) -> Result<i32, BoxedError> {
+    let mut field = MaybeUninit::<RawRelPtrI32>::zeroed();
+    // SAFETY: the pointer is to a local of the right type, all of whose bytes are set.
+    let place = unsafe { Place::new_unchecked(from, field.as_mut_ptr()) };
+    RawRelPtrI32::try_emplace(to, place)?;
+    Ok(i32::from_le_bytes(place.as_slice().try_into().unwrap()))
+}
+
+#[test]
+fn cases_1_and_2() {
+    let difference = |from, to| signed_offset::<BoxedError>(from, to).ok();
+    assert_eq!(difference(1 << 63, 0), Some(i64::MIN as isize));
+    assert_eq!(difference(0, 1 << 63), None);
+    assert_eq!(stored(0, (1 << 31) - 1).unwrap(), i32::MAX);
+    assert!(stored(0, 1 << 31).is_err());
+}
+
+/// An absent mark at the largest position is refused, as a release build does; a debug build stops at the sum.
+#[test]
+#[cfg_attr(debug_assertions, should_panic(expected = "overflow"))]
+fn absent_at_the_largest_position() {
+    let mut field = MaybeUninit::<RawRelPtrI32>::zeroed();
+    // SAFETY: as above.
+    let place = unsafe { Place::new_unchecked(usize::MAX, field.as_mut_ptr()) };
+    assert!(RawRelPtrI32::try_emplace_invalid::<BoxedError>(place).is_err());
+}
+
+#[test]
+fn case_3() {
+    let aligned = |position: usize, alignment: usize| {
+        let mut output = vec![0xff; position];
+        let next = WriterExt::<BoxedError>::align(&mut output, alignment).unwrap();
+        assert!(output[position..].iter().all(|byte| *byte == 0));
+        (next, output.len() - position)
+    };
+    assert_eq!(aligned(5, 8), (8, 3));
+    assert_eq!(aligned(8, 8), (8, 0));
+    assert_eq!(aligned(1, 32), (32, 31));
+}
+
+/// rkyv runs on to the last entry where bounds cross; document 01 gives nothing.
+#[test]
+fn case_4() {
+    let archive = Archive::copy(&built(6, 0));
+    let crossed = (Bound::Excluded(3), Bound::Excluded(3));
+    let range = archive.check().unwrap().map().range_with(crossed, by_key);
+    let keys: Vec<u64> = range.map(|(key, _)| key.to_native()).collect();
+    assert_eq!(keys, [4, 5, 6]);
+    assert!(model::crosses(crossed.0, crossed.1));
+    assert!(model::range(archive.bytes(), crossed.0, crossed.1).is_empty());
+}
+
+#[test]
+fn case_5() {
+    assert_eq!(built(0, 0), [1, 0, 0, 0, 0, 0, 0, 0]);
+}
+
+#[test]
+fn case_6() {
+    let archive = build(&[], &[7], &[9]);
+    assert_eq!(archive.len(), 104);
+    assert_eq!(
+        (archive[0], archive[8], archive[48], archive[88]),
+        (0, 7, 9, 1)
+    );
+    assert_eq!(offset_at(&archive, 96), -96);
+    let archive = Archive::copy(&archive);
+    let accepted = archive.check().unwrap();
+    assert_eq!(accepted.get(7), Some((7, 9, 48)));
+    assert_eq!(accepted.get(8), None);
+}
+
+#[test]
+fn case_7() {
+    let archive = built(6, 0);
+    assert_eq!(archive.len(), 216);
+    assert_eq!((archive[0], archive[88], archive[96]), (0, 1, 1));
+    let offsets = [184, 188, 192, 196, 200, 204, 208].map(|field| offset_at(&archive, field));
+    assert_eq!(offsets, [-184, 1, 1, 1, 1, 1, -112]);
+}
+
+#[test]
+fn case_8() {
+    let archive = built(36, 0);
+    assert_eq!(archive.len(), 808);
+    assert_eq!(archive[688], 1);
+    assert_eq!(offset_at(&archive, 776), -680);
+    assert_eq!(offset_at(&archive, 800), 688 - 800);
+}
+
+#[test]
+fn sizes() {
+    assert_eq!(built(5, 0).len(), 104);
+    assert_eq!(built(35, 0).len(), 696);
+    assert_eq!(built(0, 5).len(), 16);
+    assert_eq!(built(1, 5).len(), 112);
+}
+
+#[test]
+fn named_archives() {
+    for case in cases::all() {
+        let name = case.name;
+        assert_eq!(check(&case.archive), case.check, "check of {name}, rkyv");
+        assert_eq!(model::check(&case.archive), case.check, "check of {name}");
+        assert_eq!(
+            model::certify(&case.archive),
+            case.certify,
+            "certify of {name}"
+        );
+    }
+}
+
+/// Refusal 1 is ours alone.
+#[test]
+fn too_long() {
+    let longest = vec![0; 1_048_576];
+    assert_eq!(model::check(&longest), Ok(0));
+    assert_eq!(check(&longest), Ok(0));
+    let longer = vec![0; 1_048_580];
+    assert_eq!(model::check(&longer), Err(1));
+    assert_eq!(check(&longer), Ok(0));
+}
+
+#[test]
+fn leaf_counts() {
+    for count in 0..=7 {
+        let mut output = Output::default();
+        let root = output.leaf_counting(count, &[(1, 1), (2, 2), (3, 3), (4, 4), (5, 5)]);
+        let archive = output.record(root, count);
+        let expected = if count <= 5 { Ok(count) } else { Err(6) };
+        assert_eq!(check(&archive), expected);
+        assert_eq!(model::check(&archive), expected);
+    }
+}
+
+/// A count of 0 is accepted without a look at the root, and nothing is found.
+#[test]
+fn count_0() {
+    let archive = Archive::copy(&Output::default().record(1 << 30, 0));
+    let accepted = archive.check().unwrap();
+    assert_eq!(accepted.visit(), []);
+    assert_eq!(accepted.get(0), None);
+    assert_eq!(accepted.range(Bound::Unbounded, Bound::Unbounded), []);
+}
+
+/// The optician's printouts: on an archive that the check accepts, the walk shows an entry that the lookup does not find.
+#[test]
+fn walked_but_not_found() {
+    let (mut keys, values) = cases::examination(76);
+    keys.swap(20, 60);
+    let archive = Archive::copy(&build(&[], &keys, &values));
+    let accepted = archive.check().unwrap();
+    let walked: Vec<u64> = accepted.visit().iter().map(|entry| entry.0).collect();
+    assert_eq!(walked, keys);
+    assert!(keys.iter().any(|&key| accepted.get(key).is_none()));
+    assert_eq!(model::certify(archive.bytes()), Err(9));
+}
+
+/// Every archive that rkyv builds of an ascending list is certified and has the list.
+#[test]
+fn built_archives() {
+    for count in (0..300).chain([7_775, 7_776, 40_000]) {
+        for header in [0, 1, 4, 5, 8] {
+            let bytes = built(count, header);
+            assert!(bytes.starts_with(&vec![0xff; header]));
+            assert_eq!(model::certify(&bytes), Ok(count as u32));
+            let archive = Archive::copy(&bytes);
+            let accepted = archive.check().unwrap();
+            let entries: Vec<(u64, u64)> = (1..=count).map(|key| (key, key)).collect();
+            assert_eq!(accepted.visit(), entries);
+            assert_eq!(accepted.range(Bound::Unbounded, Bound::Unbounded), entries);
+        }
+    }
+}
+
+/// Every archive that differs in one byte from case *6 or *7: rkyv and the model agree.
+#[test]
+fn one_byte_changed() {
+    for base in [built(1, 0), built(6, 0)] {
+        let mut answers = [false; 8];
+        for position in 0..base.len() {
+            for byte in 0..=255 {
+                let mut bytes = base.clone();
+                bytes[position] = byte;
+                let checked = check(&bytes);
+                assert_eq!(checked, model::check(&bytes), "{byte} at {position}");
+                answers[checked.map_or_else(usize::from, |_| 0)] = true;
+                if checked.is_ok() {
+                    let list = model::list(&bytes);
+                    let list: Vec<_> = list.iter().map(|entry| (entry.key, entry.value)).collect();
+                    let archive = Archive::copy(&bytes);
+                    assert_eq!(
+                        archive.check().unwrap().visit(),
+                        list,
+                        "{byte} at {position}"
+                    );
+                }
+            }
+        }
+        // All but the depth: accepted, 2, 3, 4, 6 and 7.
+        assert_eq!(answers, [true, false, true, true, true, false, true, true]);
+    }
+}
+
+/// What stands in the two ends of the longest list's archive.
+#[test]
+fn ends_of_40_000() {
+    let archive = Archive::copy(&built(40_000, 0));
+    let accepted: Accepted = archive.check().unwrap();
+    assert_eq!(accepted.get(0), None);
+    assert_eq!(accepted.get(1), Some((1, 1, 48)));
+    assert_eq!(accepted.get(40_001), None);
+    let last = (Bound::Excluded(39_998), Bound::Unbounded);
+    assert_eq!(
+        accepted.range(last.0, last.1),
+        [(39_999, 39_999), (40_000, 40_000)]
+    );
+}
