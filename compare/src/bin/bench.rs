@@ -1,0 +1,252 @@
+//! Times rkyv's calls and, with the feature `ours`, those of the proved code: one process, one run, warm buffers, the best of many
+//! repetitions.
+//!
+//! A proved reader runs the check first, so it stands beside rkyv's check and rkyv's reader together; the reader alone is in a line of its
+//! own. Where the library exports no call, the line has rkyv's time only.
+
+use std::hint::black_box;
+use std::ops::{Bound, ControlFlow};
+use std::time::{Duration, Instant};
+
+use compare::cases::examination;
+#[cfg(feature = "ours")]
+use compare::ours;
+use compare::rkyv_map::{self, by_key, Accepted, Archive, Map};
+use compare::trees::Random;
+use rkyv::primitive::ArchivedU64;
+use rkyv::rancor::Error;
+use rkyv::ser::allocator::Arena;
+use rkyv::util::AlignedVec;
+
+/// Repetitions of a measurement, and the least time of one, in which the call is made as often as needed.
+const REPETITIONS: usize = 1_000;
+const LEAST: Duration = Duration::from_micros(100);
+/// Keys looked up in one go, and the most entries in a range.
+const LOOKUPS: usize = 1_000;
+const RANGE: usize = 100;
+
+/// What a call writes to.
+struct Lent {
+    keys: Vec<u64>,
+    values: Vec<u64>,
+}
+
+/// The proved code's side of a measurement, if it is linked.
+#[cfg(feature = "ours")]
+macro_rules! proved {
+    ($call:expr) => {
+        Some($call)
+    };
+}
+#[cfg(not(feature = "ours"))]
+macro_rules! proved {
+    ($call:expr) => {
+        NOT_THERE
+    };
+}
+
+/// The side of a measurement that has no call.
+const NOT_THERE: Option<fn(&mut Lent) -> usize> = None;
+
+fn main() {
+    println!("entries  call                               ours ns     rkyv ns   ratio");
+    for entries in [76, 40_000] {
+        measure(entries);
+    }
+}
+
+fn measure(entries: usize) {
+    let (keys, values) = examination(entries as u64);
+    let archive = Archive::copy(&rkyv_map::build(&[], &keys, &values));
+    let map = accepted(&archive).map();
+    let random = &mut Random::new(0);
+    // Of four keys that are looked up, three are there.
+    let sought: Vec<u64> = (0..LOOKUPS)
+        .map(|_| random.pick(&keys) + u64::from(random.one_in(4)))
+        .collect();
+    let first = (entries - entries.min(RANGE)) / 2;
+    let bounds = (
+        Bound::Included(keys[first]),
+        Bound::Included(keys[first + entries.min(RANGE) - 1]),
+    );
+
+    let row = |call: &str, (ours, rkyv): (Option<f64>, f64)| {
+        let ratio = ours.map_or("-".into(), |ours| format!("{:.2}", ours / rkyv));
+        let ours = ours.map_or("-".into(), |ours| format!("{ours:.0}"));
+        println!("{entries:7}  {call:32} {ours:>9} {rkyv:11.0} {ratio:>7}");
+    };
+    row(
+        "check",
+        best(
+            entries,
+            proved!(|_: &mut Lent| ours::check(black_box(archive.bytes())).unwrap() as usize),
+            |_| accepted(&archive).count() as usize,
+        ),
+    );
+    row(
+        "check and walk",
+        best(
+            entries,
+            proved!(|lent: &mut Lent| {
+                let bytes = black_box(archive.bytes());
+                ours::walk(bytes, &mut lent.keys, &mut lent.values).unwrap() as usize
+            }),
+            |lent| visit(accepted(&archive).map(), lent),
+        ),
+    );
+    row(
+        "walk alone",
+        best(entries, NOT_THERE, |lent| visit(black_box(map), lent)),
+    );
+    row(
+        "check and one lookup",
+        best(
+            entries,
+            proved!(|_: &mut Lent| {
+                let bytes = black_box(archive.bytes());
+                usize::from(ours::lookup(bytes, sought[0]).unwrap().is_some())
+            }),
+            |lent| look_up(accepted(&archive).map(), &sought[..1], lent),
+        ),
+    );
+    row(
+        "check and 1,000 lookups",
+        best(
+            LOOKUPS,
+            proved!(|lent: &mut Lent| {
+                let bytes = black_box(archive.bytes());
+                ours::lookup_many(bytes, &sought, &mut lent.values).unwrap() as usize
+            }),
+            |lent| look_up(accepted(&archive).map(), &sought, lent),
+        ),
+    );
+    row(
+        "1,000 lookups alone",
+        best(LOOKUPS, NOT_THERE, |lent| {
+            look_up(black_box(map), &sought, lent)
+        }),
+    );
+    row(
+        &format!("range of {} entries alone", entries.min(RANGE)),
+        best(RANGE, NOT_THERE, |lent| range(black_box(map), bounds, lent)),
+    );
+    let (mut output, mut arena) = (AlignedVec::new(), Arena::new());
+    row(
+        "build",
+        best(0, NOT_THERE, |_| {
+            output.clear();
+            rkyv_map::build_into(&mut output, &mut arena, black_box(&keys), &values).unwrap();
+            output.len()
+        }),
+    );
+}
+
+/// rkyv's check, as a caller has it in a release build. It and the three readers below are functions of their own, as the proved calls
+/// are, so that they are the same code in every line of the table.
+#[inline(never)]
+fn accepted(archive: &Archive) -> Accepted<'_> {
+    black_box(archive).validate::<Error>().unwrap()
+}
+
+#[inline(never)]
+fn visit(map: &Map, lent: &mut Lent) -> usize {
+    let mut places = lent.keys.iter_mut().zip(&mut lent.values);
+    let mut written = 0;
+    map.visit(|key, value| match places.next() {
+        Some(place) => {
+            (*place.0, *place.1) = (key.to_native(), value.to_native());
+            written += 1;
+            ControlFlow::Continue(())
+        }
+        None => ControlFlow::Break(()),
+    });
+    written
+}
+
+#[inline(never)]
+fn look_up(map: &Map, sought: &[u64], lent: &mut Lent) -> usize {
+    let mut found = 0;
+    for (key, place) in sought.iter().zip(&mut lent.values) {
+        if let Some((_, value)) = map.get_key_value(&ArchivedU64::from_native(*key)) {
+            *place = value.to_native();
+            found += 1;
+        }
+    }
+    found
+}
+
+#[inline(never)]
+fn range(map: &Map, bounds: (Bound<u64>, Bound<u64>), lent: &mut Lent) -> usize {
+    let places = lent.keys.iter_mut().zip(&mut lent.values);
+    let mut written = 0;
+    for ((key, value), place) in map.range_with(bounds, by_key).zip(places) {
+        (*place.0, *place.1) = (key.to_native(), value.to_native());
+        written += 1;
+    }
+    written
+}
+
+/// The best times of the two sides in nanoseconds, their repetitions taken in turn. Each has two lists of its own to write to, and both must
+/// give the same number and leave the same lists.
+fn best(
+    room: usize,
+    ours: Option<impl FnMut(&mut Lent) -> usize>,
+    rkyv: impl FnMut(&mut Lent) -> usize,
+) -> (Option<f64>, f64) {
+    let mut rkyv = Side::new(room, rkyv);
+    let mut ours = ours.map(|ours| Side::new(room, ours));
+    if let Some(ours) = &ours {
+        assert_eq!(ours.answer, rkyv.answer, "the same number");
+        assert_eq!(ours.lent.keys, rkyv.lent.keys, "the same keys");
+        assert_eq!(ours.lent.values, rkyv.lent.values, "the same values");
+    }
+    for _ in 0..REPETITIONS {
+        if let Some(ours) = &mut ours {
+            ours.repeat();
+        }
+        rkyv.repeat();
+    }
+    (ours.map(|ours| ours.best), rkyv.best)
+}
+
+struct Side<F> {
+    call: F,
+    lent: Lent,
+    answer: usize,
+    calls: u32,
+    best: f64,
+}
+
+impl<F: FnMut(&mut Lent) -> usize> Side<F> {
+    fn new(room: usize, mut call: F) -> Self {
+        let mut lent = Lent {
+            keys: vec![0; room],
+            values: vec![0; room],
+        };
+        let answer = call(&mut lent);
+        let mut side = Self {
+            call,
+            lent,
+            answer,
+            calls: 1,
+            best: f64::INFINITY,
+        };
+        while side.repeat() < LEAST {
+            side.calls *= 2;
+        }
+        side.best = f64::INFINITY;
+        side
+    }
+
+    /// One repetition: the calls that it takes, and its time.
+    fn repeat(&mut self) -> Duration {
+        let start = Instant::now();
+        for _ in 0..self.calls {
+            black_box((self.call)(&mut self.lent));
+        }
+        let time = start.elapsed();
+        let each = time.as_nanos() as f64 / f64::from(self.calls);
+        self.best = self.best.min(each);
+        time
+    }
+}

@@ -1,0 +1,203 @@
+//! Compares answers on generated archives: rkyv's with the model's, which is document 01's text, and, with the feature `ours`, the proved
+//! code's with both.
+//!
+//! `compare [NUMBER [FIRST]]` takes as many seeds from the first on. Prints how many archives there were of each kind. If answers differ, it
+//! prints the smallest archive on which they do, in hex, and ends with 1.
+
+use std::env;
+use std::fmt::Debug;
+use std::process::ExitCode;
+
+use compare::counts::Counts;
+use compare::model::{self, Entry};
+use compare::rkyv_map::{Accepted, Archive};
+use compare::trees::{self, Random};
+
+/// Keys and pairs of bounds asked of each archive.
+const QUESTIONS: usize = 8;
+
+fn main() -> ExitCode {
+    let mut arguments = env::args().skip(1).map(|text| text.parse::<u64>());
+    let mut argument = |default| match arguments.next() {
+        Some(number) => number.expect("a number"),
+        None => default,
+    };
+    let number = argument(100_000);
+    let first = argument(0);
+
+    let mut counts = Counts::default();
+    let mut differing = 0;
+    let mut smallest: Option<(Archive, String)> = None;
+    for seed in first..first + number {
+        let archive = Archive::copy(&trees::archive(seed));
+        counts.add(model::certify(archive.bytes()));
+        if let Err(difference) = compare(&archive, &mut Random::new(!seed)) {
+            differing += 1;
+            let length = archive.bytes().len();
+            if smallest
+                .as_ref()
+                .is_none_or(|(least, _)| length < least.bytes().len())
+            {
+                smallest = Some((archive, format!("seed {seed}: {difference}")));
+            }
+        }
+    }
+
+    print!("{counts}");
+    println!("differing      {differing:9}");
+    let Some((archive, difference)) = smallest else {
+        return ExitCode::SUCCESS;
+    };
+    println!("{difference}");
+    for byte in archive.bytes() {
+        print!("{byte:02x}");
+    }
+    println!();
+    ExitCode::FAILURE
+}
+
+/// The first difference in the answers about one archive.
+fn compare(archive: &Archive, random: &mut Random) -> Result<(), String> {
+    let bytes = archive.bytes();
+    let checked = archive.check();
+    let count = count(&checked);
+    same("check", ("rkyv", count), ("model", model::check(bytes)))?;
+
+    let entries = match &checked {
+        Ok(accepted) => accepted.visit(),
+        Err(_) => Vec::new(),
+    };
+    let keys: Vec<u64> = entries.iter().map(|entry| entry.0).collect();
+    let sought = trees::sought(&keys, QUESTIONS, random);
+    if let Ok(accepted) = &checked {
+        readers(bytes, accepted, &entries, &sought, random)?;
+    }
+    #[cfg(feature = "ours")]
+    proved::compare(bytes, &checked, &entries, &sought, random)?;
+    Ok(())
+}
+
+/// What rkyv's check answers, as a number.
+fn count(checked: &Result<Accepted, u8>) -> Result<u32, u8> {
+    match checked {
+        Ok(accepted) => Ok(accepted.count()),
+        Err(number) => Err(*number),
+    }
+}
+
+/// What rkyv reads of an accepted archive, and what document 01 says of it.
+fn readers(
+    bytes: &[u8],
+    accepted: &Accepted,
+    entries: &[(u64, u64)],
+    sought: &[u64],
+    random: &mut Random,
+) -> Result<(), String> {
+    let list = model::list(bytes);
+    same("walk", ("rkyv", entries), ("model", &pairs(&list)))?;
+    if model::fault(bytes).is_some() {
+        return Ok(());
+    }
+    for &key in sought {
+        let entry = list.iter().find(|entry| entry.key == key);
+        let found = entry.map(|entry| (entry.key, entry.value, entry.position));
+        let what = format!("lookup of {key}");
+        same(&what, ("rkyv", accepted.get(key)), ("model", found))?;
+    }
+    let keys: Vec<u64> = entries.iter().map(|entry| entry.0).collect();
+    for _ in 0..QUESTIONS {
+        let (lower, upper) = trees::bounds(&keys, random);
+        let reference = match model::crosses(lower, upper) {
+            true => ("document 01", Vec::new()),
+            false => ("rkyv", accepted.range(lower, upper)),
+        };
+        let range = pairs(&model::range(bytes, lower, upper));
+        let what = format!("range from {lower:?} to {upper:?}");
+        same(&what, reference, ("model", range))?;
+    }
+    Ok(())
+}
+
+fn pairs(entries: &[Entry]) -> Vec<(u64, u64)> {
+    let pairs = entries.iter().map(|entry| (entry.key, entry.value));
+    pairs.collect()
+}
+
+/// A difference, unless the two give the same.
+fn same<T: Debug + PartialEq>(what: &str, one: (&str, T), other: (&str, T)) -> Result<(), String> {
+    if one.1 == other.1 {
+        return Ok(());
+    }
+    let (one, first) = one;
+    let (other, second) = other;
+    Err(format!("{what}: {one} {first:?}, {other} {second:?}"))
+}
+
+/// The proved code's answers against rkyv's, and against the model's where rkyv has none.
+#[cfg(feature = "ours")]
+mod proved {
+    use compare::rkyv_map::Accepted;
+    use compare::trees::Random;
+    use compare::{model, ours};
+
+    use super::{count, same};
+
+    /// What a place of a lent list holds before a call.
+    const BEFORE: u64 = 0x5555_5555_5555_5555;
+
+    pub fn compare(
+        bytes: &[u8],
+        checked: &Result<Accepted, u8>,
+        entries: &[(u64, u64)],
+        sought: &[u64],
+        random: &mut Random,
+    ) -> Result<(), String> {
+        let count = count(checked);
+        let certified = model::certify(bytes);
+        same("check", ("rkyv", count), ("ours", ours::check(bytes)))?;
+        same(
+            "certify",
+            ("model", certified),
+            ("ours", ours::certify(bytes)),
+        )?;
+
+        // Two lists of different lengths: the shorter decides, and later places keep their content.
+        let mut keys = vec![BEFORE; room(entries, random)];
+        let mut values = vec![BEFORE; room(entries, random)];
+        let written = entries.len().min(keys.len()).min(values.len());
+        let (mut keys_after, mut values_after) = (keys.clone(), values.clone());
+        for (index, &(key, value)) in entries.iter().take(written).enumerate() {
+            (keys_after[index], values_after[index]) = (key, value);
+        }
+        let after = (count.map(|_| written as u32), keys_after, values_after);
+        let answer = ours::walk(bytes, &mut keys, &mut values);
+        same("walk", ("rkyv", after), ("ours", (answer, keys, values)))?;
+
+        let mut found = Vec::new();
+        for &key in sought {
+            let value = match checked {
+                Ok(accepted) => Ok(accepted.get(key).map(|found| found.1)),
+                Err(number) => Err(*number),
+            };
+            let what = format!("lookup of {key}");
+            same(&what, ("rkyv", value), ("ours", ours::lookup(bytes, key)))?;
+            found.push(value.ok().flatten());
+        }
+
+        // The place of a key that is not there may hold anything.
+        let mut values = vec![BEFORE; sought.len()];
+        let number = count.map(|_| found.iter().flatten().count() as u32);
+        let answer = ours::lookup_many(bytes, sought, &mut values);
+        same("lookup of many", ("rkyv", number), ("ours", answer))?;
+        for ((key, value), after) in sought.iter().zip(found).zip(values) {
+            let what = format!("lookup of many, at {key}");
+            same(&what, ("rkyv", value.unwrap_or(after)), ("ours", after))?;
+        }
+        Ok(())
+    }
+
+    /// A length for a lent list: too short, right, or longer than the entries need.
+    fn room(entries: &[(u64, u64)], random: &mut Random) -> usize {
+        random.below(2 * entries.len() + 3)
+    }
+}
