@@ -1,0 +1,224 @@
+-- A range: the tests of a slot's key, what the loops over slots and children keep, and that the number matching fits. Assumes nothing.
+use mathlib.Core.Path.{_≡_, refl, sym, ap, _∙_}
+use mathlib.Core.Bool.{Bool, true, false, not}
+use mathlib.Core.List.{List, [], _∷_, _++_}
+use Prim.Native.Nat.{ℕ, _+_, _-_, _^_, _≤_, _<_}
+use native.Mathlib.Nat.{sub-zero}
+use native.Mathlib.Omega.{arith}
+use lib.ListN.{length, getD}
+use lib.Dec.{leb, ltb}
+use borrow.Author.Tests.{ltb-true, ltb-false, leb-true, leb-false, lt-ltb, le-ltb, le-leb, lt-leb, not-true, not-false}
+use Rattle.format.specs.declared.Entry.{Entry}
+use Rattle.format.specs.declared.Position.{Position}
+use Rattle.format.specs.declared.Bound.{Bound}
+use Rattle.format.specs.declared.Child.{Child}
+use Rattle.format.specs.declared.Child.the-variants.{At}
+use Rattle.format.specs.Layout.{Layout, layout32, Limits, standard, nested}
+use Rattle.format.specs.Bytes.{leAt}
+use Rattle.format.specs.Node.{child, keyAt, leafCount, slot}
+use Rattle.format.specs.Entries.{slots, listChildren, listAt}
+use Rattle.format.specs.Certify.{Ascending}
+use Rattle.format.specs.Range.{keyMeetsLower, keyMeetsUpper, meetsLower, meetsUpper, matches, select}
+use Rattle.format.specs.Laws.Ascend.{Split, split}
+use Rattle.format.specs.Laws.Bounds.{node-few}
+use Rattle.format.specs.Laws.Children.{childAt, onChild, on-at}
+use Rattle.format.specs.Laws.Node.{Node}
+use Rattle.format.specs.Laws.Ranged.{Sink, sink, taken, rangeStep, ranged, select-few, step-hit, all-ranged, runs-matching, runs-rise, pass-lower, stop-upper}
+use Rattle.format.specs.Laws.Written.{walked, runs-none, runs-cons, runs-append}
+use Rattle.btree.proofs.Runs.{slots-more, children-more, children-last, entries-leaf, entries-inner, leaf-step, inner-step}
+
+-- ---- comparisons turned round
+
+pub not-leb : (a b : ℕ) → ltb b a ≡ not (leb a b)
+not-leb a b = go (leb a b) refl
+  where
+    go : (t : Bool) → leb a b ≡ t → ltb b a ≡ not (leb a b)
+    go true e = rw e (le-ltb b a (leb-true a b e))
+    go false e = rw e (lt-ltb b a (leb-false a b e))
+
+pub not-ltb : (a b : ℕ) → leb b a ≡ not (ltb a b)
+not-ltb a b = go (ltb a b) refl
+  where
+    go : (t : Bool) → ltb a b ≡ t → leb b a ≡ not (ltb a b)
+    go true e = rw e (lt-leb b a (ltb-true a b e))
+    go false e = rw e (le-leb b a (ltb-false a b e))
+
+module _ (L : Layout) (s : List ℕ) where
+  -- What the lesser children and slots of the node at p give from i on, and the greater child.
+  abbrev pub rest : Limits → ℕ → ℕ → List Entry
+  rest M p i = listChildren L s (listAt L s (nested M)) p (L .entries - i) i
+
+  -- What child i gives.
+  abbrev pub at-child : Limits → ℕ → ℕ → List Entry
+  at-child M p i = onChild [] (listAt L s (nested M)) (childAt L s (child L p i))
+
+  whole-rest : (M : Limits) (p : ℕ) → Node L M s p → (getD s p 0 ≡ 0 → ⊥) → rest M p 0 ≡ listAt L s (nested M) p
+  whole-rest M p v h = ap (λ (x : ℕ). listChildren L s (listAt L s (nested M)) p x 0) (sub-zero (L .entries)) ∙ sym (entries-inner L s M p v h)
+
+  -- ---- parts of an ascending node ascend
+
+  module _ (M : Limits) {p : ℕ} (v : Node L M s p) where
+    pub leaf-ascends : getD s p 0 ≡ 0 → Ascending (listAt L s (nested M) p) → Ascending (slots L s p (leafCount L s p) 0)
+    leaf-ascends h a = rw (entries-leaf L s M p v h) at a
+
+    pub inner-ascends : (getD s p 0 ≡ 0 → ⊥) → Ascending (listAt L s (nested M) p) → Ascending (rest M p 0)
+    inner-ascends h a = rw (whole-rest M p v h) a
+
+  pub slots-ascend : (p n m : ℕ) → n ≡ m → Ascending (slots L s p m 0) → Ascending (slots L s p (n - 0) 0)
+  slots-ascend p n m e a = let z : n - 0 ≡ m = omega arith in rw z a
+
+  pub slots-rest : (p n i : ℕ) → i < n → Ascending (slots L s p (n - i) i) → Ascending (slots L s p (n - (i + 1)) (i + 1))
+  slots-rest p n i h a = (rw (slots-more L s p n i h) at a) .1
+
+  module _ (M : Limits) (p i : ℕ) where
+    parts : i < L .entries → Ascending (rest M p i) → Split (at-child M p i) (slot L s p i) (rest M p (i + 1))
+    parts h a = split _ _ _ (rw (children-more L s (listAt L s (nested M)) p (L .entries) i h) at a)
+
+    pub rest-ascends : i < L .entries → Ascending (rest M p i) → Ascending (rest M p (i + 1))
+    rest-ascends h a = parts h a .right
+
+    -- r is what was read of the child.
+    module _ (r : Child) (q : Position) (e : r ≡ At q) where
+      pub child-ascends : r ≡ childAt L s (child L p i) → i < L .entries → Ascending (rest M p i) → Ascending (listAt L s (nested M) (q .0))
+      child-ascends c h a = rw (on-at [] (listAt L s (nested M)) (childAt L s (child L p i)) q (sym c ∙ e)) at (parts h a .left)
+
+      pub last-ascends : r ≡ childAt L s (child L p (L .entries)) → L .entries ≤ i → i ≤ L .entries → Ascending (rest M p i) → Ascending (listAt L s (nested M) (q .0))
+      last-ascends c h l a =
+          let z : i ≡ L .entries = omega arith in
+          let c′ : r ≡ childAt L s (child L p i) = rw z c in
+          rw (children-last L s (listAt L s (nested M)) p (L .entries) i h, on-at [] (listAt L s (nested M)) (childAt L s (child L p i)) q (sym c′ ∙ e)) at a
+
+  module _ (lower upper : Bound) where
+    -- ---- a slot's key: k is what the code reads, a and b what it says of the lower and of the upper bound
+
+    module _ (p i k : ℕ) (e : k ≡ leAt 8 s (keyAt L p i)) where
+      slot-lower : (a t : Bool) → a ≡ keyMeetsLower lower k → a ≡ t → meetsLower lower (slot L s p i) ≡ t
+      unfolding slot
+      slot-lower a t ea et = cc
+
+      slot-past : (b : Bool) → b ≡ not (keyMeetsUpper upper k) → b ≡ true → meetsUpper upper (slot L s p i) ≡ false
+      unfolding slot
+      slot-past b eb et = not-true _ (cc (eb, et, e))
+
+      slot-upper : (b : Bool) → b ≡ not (keyMeetsUpper upper k) → b ≡ false → meetsUpper upper (slot L s p i) ≡ true
+      unfolding slot
+      slot-upper b eb et = not-false _ (cc (eb, et, e))
+
+      pub slot-matches : (a b : Bool) → a ≡ keyMeetsLower lower k → a ≡ true → b ≡ not (keyMeetsUpper upper k) → b ≡ false → matches lower upper (slot L s p i) ≡ true
+      slot-matches a b ea ta eb tb = rw (slot-lower a true ea ta, matches) (slot-upper b eb tb)
+
+    -- ---- the loop over a leaf's slots
+
+    module _ (p n i k : ℕ) (o : Sink) where
+      pub leaf-pass : (a : Bool) (g : Sink) → i < n → Ascending (slots L s p (n - i) i) → k ≡ leAt 8 s (keyAt L p i) → a ≡ keyMeetsLower lower k → a ≡ false
+          → ranged lower upper (slots L s p (n - i) i) o ≡ g → ranged lower upper (slots L s p (n - (i + 1)) (i + 1)) o ≡ g
+      leaf-pass a g h asc e ea ta q =
+          let m = slots-more L s p n i h in
+          sym (pass-lower lower upper [] (slot L s p i) (slots L s p (n - (i + 1)) (i + 1)) o (rw m at asc) (slot-lower p i k e a false ea ta)) ∙ (rw m at q)
+
+      pub leaf-stop : (m : ℕ) (b : Bool) (o₀ : Sink) → i < n → n ≡ m → Ascending (slots L s p (n - i) i) → k ≡ leAt 8 s (keyAt L p i)
+          → b ≡ not (keyMeetsUpper upper k) → b ≡ true
+          → ranged lower upper (slots L s p (n - i) i) o ≡ ranged lower upper (slots L s p (n - 0) 0) o₀
+          → o ≡ ranged lower upper (slots L s p m 0) o₀
+      leaf-stop m b o₀ h en asc e eb tb q =
+          let m′ = slots-more L s p n i h in
+          let z : n - 0 ≡ m = omega arith in
+          let stop = stop-upper lower upper [] (slot L s p i) (slots L s p (n - (i + 1)) (i + 1)) o (rw m′ at asc) (slot-past p i k e b eb tb) in
+          cc (runs-none (rangeStep lower upper) o, stop, m′, z, q)
+
+    module _ (p n i : ℕ) (o : Sink) (h : i < n) (m : matches lower upper (slot L s p i) ≡ true) where
+      pub leaf-take : (o₁ g : Sink) → o₁ ≡ taken (slot L s p i) o
+          → ranged lower upper (slots L s p (n - i) i) o ≡ g → ranged lower upper (slots L s p (n - (i + 1)) (i + 1)) o₁ ≡ g
+      leaf-take o₁ g t q = leaf-step L s (rangeStep lower upper) p n i o o₁ g h (t ∙ sym (step-hit lower upper (slot L s p i) o m)) q
+
+      pub leaf-fits : (k : ℕ) (o₀ : Sink) (top : ℕ) → n ≡ k
+          → ranged lower upper (slots L s p (n - i) i) o ≡ ranged lower upper (slots L s p (n - 0) 0) o₀
+          → o₀ .matching + length (select (matches lower upper) (slots L s p k 0)) < top → o .matching + 1 < top
+      leaf-fits k o₀ top e q l =
+          let z : n - 0 ≡ k = omega arith in
+          let o₁ = taken (slot L s p i) o in
+          let w = runs-rise lower upper (slots L s p (n - (i + 1)) (i + 1)) (slots L s p k 0) o₁ o₀ (rw z at (leaf-take o₁ _ refl q)) in
+          omega arith
+
+    pub whole-leaf-fits : (M : Limits) (p m top : ℕ) → Node L M s p → getD s p 0 ≡ 0
+        → m + length (select (matches lower upper) (listAt L s (nested M) p)) < top → m + length (select (matches lower upper) (slots L s p (leafCount L s p) 0)) < top
+    whole-leaf-fits M p m top v h f = rw (entries-leaf L s M p v h) at f
+
+    -- ---- the loop over an inner node's lesser children and slots
+
+    module _ (M : Limits) (p i : ℕ) (o : Sink) where
+      pub inner-pass : (k : ℕ) (a : Bool) (r : Sink) → i < L .entries → Ascending (rest M p i) → k ≡ leAt 8 s (keyAt L p i)
+          → a ≡ keyMeetsLower lower k → a ≡ false
+          → ranged lower upper (rest M p i) o ≡ r → ranged lower upper (rest M p (i + 1)) o ≡ r
+      inner-pass k a r h asc e ea ta q =
+          let m = children-more L s (listAt L s (nested M)) p (L .entries) i h in
+          sym (pass-lower lower upper (at-child M p i) (slot L s p i) (rest M p (i + 1)) o (rw m at asc) (slot-lower p i k e a false ea ta)) ∙ (rw m at q)
+
+      pub inner-take : (o₁ o₂ r : Sink) → i < L .entries → o₁ ≡ ranged lower upper (at-child M p i) o → matches lower upper (slot L s p i) ≡ true
+          → o₂ ≡ taken (slot L s p i) o₁
+          → ranged lower upper (rest M p i) o ≡ r → ranged lower upper (rest M p (i + 1)) o₂ ≡ r
+      inner-take o₁ o₂ r h e₁ m e₂ q =
+          inner-step L s (rangeStep lower upper) (listAt L s (nested M)) p (L .entries) i o o₁ o₂ r h e₁ (e₂ ∙ sym (step-hit lower upper (slot L s p i) o₁ m)) q
+
+      -- o₀ is the state before the node.
+      module _ (o₀ : Sink) (v : Node L M s p) (h : getD s p 0 ≡ 0 → ⊥) (q : ranged lower upper (rest M p i) o ≡ ranged lower upper (rest M p 0) o₀) where
+        whole : ranged lower upper (rest M p i) o ≡ ranged lower upper (listAt L s (nested M) p) o₀
+        whole = q ∙ ap (λ (x : List Entry). ranged lower upper x o₀) (whole-rest M p v h)
+
+        -- With child i done, what is left.
+        after-child : i < L .entries
+            → ranged lower upper (slot L s p i ∷ rest M p (i + 1)) (ranged lower upper (at-child M p i) o)
+            ≡ ranged lower upper (listAt L s (nested M) p) o₀
+        after-child l =
+            sym (runs-append (rangeStep lower upper) (at-child M p i) (slot L s p i ∷ rest M p (i + 1)) o)
+            ∙ (rw (children-more L s (listAt L s (nested M)) p (L .entries) i l) at whole)
+
+        pub inner-stop : (k : ℕ) (b : Bool) (o₁ : Sink) → i < L .entries → Ascending (rest M p i) → k ≡ leAt 8 s (keyAt L p i)
+            → b ≡ not (keyMeetsUpper upper k) → b ≡ true → o₁ ≡ ranged lower upper (at-child M p i) o
+            → o₁ ≡ ranged lower upper (listAt L s (nested M) p) o₀
+        inner-stop k b o₁ l asc e eb tb t =
+            let m = children-more L s (listAt L s (nested M)) p (L .entries) i l in
+            t ∙ sym (stop-upper lower upper (at-child M p i) (slot L s p i) (rest M p (i + 1)) o (rw m at asc) (slot-past p i k e b eb tb)) ∙ (rw m at whole)
+
+        -- ---- the number matching stays below a bound that holds for the whole node
+
+        module _ (top : ℕ) (f : o₀ .matching + length (select (matches lower upper) (listAt L s (nested M) p)) < top) where
+          module _ (r : Child) (x : Position) (e : r ≡ At x) where
+            pub child-fits : i < L .entries → r ≡ childAt L s (child L p i) → o .matching + length (select (matches lower upper) (listAt L s (nested M) (x .0))) < top
+            child-fits l c =
+                let w = runs-rise lower upper _ _ _ o₀ (after-child l) in
+                let m = runs-matching lower upper (at-child M p i) o in
+                rw (← on-at [] (listAt L s (nested M)) (childAt L s (child L p i)) x (sym c ∙ e)) (omega arith)
+
+            pub last-fits : L .entries ≤ i → i ≤ L .entries → r ≡ childAt L s (child L p (L .entries))
+                → o .matching + length (select (matches lower upper) (listAt L s (nested M) (x .0))) < top
+            last-fits l l′ c =
+                let z : i ≡ L .entries = omega arith in
+                let t = ap (λ (u : Sink). u .matching) (rw (children-last L s (listAt L s (nested M)) p (L .entries) i l) at whole) in
+                let m = runs-matching lower upper (at-child M p i) o in
+                let m₀ = runs-matching lower upper (listAt L s (nested M) p) o₀ in
+                let c′ : r ≡ childAt L s (child L p i) = rw z c in
+                rw (← on-at [] (listAt L s (nested M)) (childAt L s (child L p i)) x (sym c′ ∙ e)) (omega arith)
+
+          pub slot-fits : (o₁ : Sink) → i < L .entries → matches lower upper (slot L s p i) ≡ true → o₁ ≡ ranged lower upper (at-child M p i) o
+              → o₁ .matching + 1 < top
+          slot-fits o₁ l m t =
+              let u : ranged lower upper (rest M p (i + 1)) (taken (slot L s p i) o₁) ≡ ranged lower upper (listAt L s (nested M) p) o₀ =
+              cc (step-hit lower upper (slot L s p i) o₁ m, runs-cons (rangeStep lower upper) (slot L s p i) (rest M p (i + 1)) o₁, after-child l) in
+              let w = runs-rise lower upper _ _ _ o₀ u in
+              omega arith
+
+-- ---- from the front of both lists
+
+module _ (lower upper : Bound) where
+  module _ (es : List Entry) (ks vs : List ℕ) (o : Sink) (e : o ≡ ranged lower upper es (sink ks vs 0 0)) where
+    pub range-lists : o .lists ≡ walked (select (matches lower upper) es) ks vs
+    range-lists = ap (λ (u : Sink). u .lists) (e ∙ all-ranged lower upper es ks vs)
+
+    pub range-matching : o .matching ≡ length (select (matches lower upper) es)
+    range-matching = ap (λ (u : Sink). u .matching) (e ∙ all-ranged lower upper es ks vs)
+
+  -- No node that the readers may read has 6 ^ 14 entries.
+  pub node-fits : (s : List ℕ) {p : ℕ} → Node layout32 standard s p → 0 + length (select (matches lower upper) (listAt layout32 s (nested standard) p)) < 2 ^ 64
+  unfolding nested standard
+  node-fits s {p} v = omega (arith, node-few layout32 s standard v, select-few (matches lower upper) (listAt layout32 s (nested standard) p))

@@ -1,0 +1,91 @@
+-- `btree::iter::range_leaf` meets its contract. Assumes nothing.
+use mathlib.Core.Path.{_≡_}
+use mathlib.Core.Bool.{true}
+use Prim.Native.Nat.{_-_, _≤_}
+use lib.ListN.{length}
+use borrow.Author.Needs.{needs}
+use borrow.Author.Tests.{not-true, not-false}
+use Rattle.format.specs.Layout.{layout32}
+use Rattle.format.specs.Node.{slot}
+use Rattle.format.specs.Entries.{slots}
+use Rattle.format.specs.Range.{matches}
+use Rattle.format.specs.Certify.{Ascending}
+use Rattle.format.specs.Laws.Ranged.{sink, ranged}
+use Rattle.btree.proofs.Runs.{leaf-done}
+use Rattle.btree.proofs.Ranges.{slot-matches, slots-ascend, slots-rest, leaf-pass, leaf-stop, leaf-take, leaf-fits}
+use Rattle.btree.proofs.iter.range_leaf.Statement.{statement}
+use Rattle.btree.proofs.iter.range_leaf.Tie as tie
+
+abbrev Inv-loop : tie.InvT-loop
+Inv-loop archive pos lower upper keys₀ values₀ p n done₀ i₀ keys values done i =
+    (i ≤ n) × (length keys ≡ length keys₀) × (length values ≡ length values₀) × Ascending (slots layout32 archive (pos .0) (n - i) i)
+    × (ranged lower upper (slots layout32 archive (pos .0) (n - i) i) (sink keys values (done .written) (done .matching))
+    ≡ ranged lower upper (slots layout32 archive (pos .0) (n - i₀) i₀) (sink keys₀ values₀ (done₀ .written) (done₀ .matching)))
+
+abbrev μ-loop : tie.MeasureT-loop
+μ-loop archive pos lower upper keys₀ values₀ p n done₀ i₀ keys values done i = n - i
+
+-- Past both tests the slot matches.
+hit : (c : tie.Else2 Inv-loop μ-loop)
+    → let a = c .before .before .before .before .before .before .before .before .before .before .before .args in
+    matches (a .lower) (a .upper) (slot layout32 (a .archive .now) (a .pos .0) (c .before .before .before .before .before .before .loop .i)) ≡ true
+hit c =
+    let k = c .before .before in
+    let a = k .before .before .before .before .before .before .before .before .before .args in
+    slot-matches layout32 _ (a .lower) (a .upper) _ _ _ (k .before .before .u64-at .ensures) _ _ (k .before .key-satisfies-lower .ensures)
+    (not-false _ (k .if1 .left)) (c .before .key-is-past-upper .ensures) (c .if2 .left)
+
+loop-holds : tie.Need-loop-holds Inv-loop μ-loop
+loop-holds c = (search needs, search needs, search needs, search slots-ascend, search needs)
+
+loop-again : tie.Need-loop-again Inv-loop μ-loop
+loop-again c = (search needs, search needs, search needs, search slots-rest, search (leaf-pass, not-true))
+
+returns : tie.Need-returns Inv-loop μ-loop
+returns c = search leaf-stop
+
+range-slot-requires : tie.Need-range-slot-requires Inv-loop μ-loop
+range-slot-requires c κs =
+    let past = c .before .before in
+    let turn = past .before .before .before .before .before in
+    let head = turn .before in
+    let read = head .before in
+    let n = leaf-fits layout32 _ _ _ _ _ _ _ (turn .loop-test .taken) (hit past) _ _ _ (read .u32-at .ensures) (head .loop .inv .4)
+    (read .before .before .before .before .pre .1 .1) in
+    (search needs, search needs, n)
+
+loop-again-2 : tie.Need-loop-again-2 Inv-loop μ-loop
+loop-again-2 c = (search needs, search needs, search needs, search slots-rest, search (leaf-take, hit (c .before .before .before .before .before .before .before)))
+
+returns-2 : tie.Need-returns-2 Inv-loop μ-loop
+returns-2 c = search leaf-done
+
+pub range-leaf-spec : {M : Type 1} → statement M
+range-leaf-spec =
+    tie.close
+    (tie.spec
+    Inv-loop
+    μ-loop
+    (search needs)
+    (search needs)
+    (search needs)
+    loop-holds
+    (search needs)
+    (search needs)
+    (search needs)
+    (search needs)
+    (search needs)
+    (search needs)
+    (search needs)
+    loop-again
+    (search needs)
+    (search needs)
+    (search needs)
+    returns
+    range-slot-requires
+    (search needs)
+    (search needs)
+    loop-again-2
+    (search needs)
+    (search needs)
+    returns-2)

@@ -1,0 +1,12 @@
+-- `btree::iter::range_slot` meets its contract. Assumes nothing.
+use borrow.Author.Needs.{needs}
+use Rattle.btree.proofs.iter.range_slot.Statement.{statement}
+use Rattle.btree.proofs.iter.range_slot.Tie as tie
+
+returns : tie.Need-returns
+returns c = cc
+
+pub range-slot-spec : {M : Type 1} → statement M
+range-slot-spec =
+    tie.close
+    (tie.spec (search needs) (search needs) (search needs) (search needs) returns)
