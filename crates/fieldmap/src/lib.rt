@@ -4,26 +4,29 @@ use btree::node::pointed;
 use fields::rel_ptr::Distance;
 use fields::rel_ptr::Stored;
 use fields::ser::writer::Aligned;
+use format::Bound;
 use format::CheckAnswer;
 use format::Entry;
 use format::Found;
 use format::Layout;
 use format::Position;
 use format::Refusal;
+use perimetry::column::Columns;
+use perimetry::column::column_bounds;
 use perimetry::key::KeyFields;
 use perimetry::key::Packed;
 ghost use mathlib.Core.Path.{_≡_};
 ghost use Rattle.format.specs.Layout.{layout32, standard};
-ghost use Rattle.format.specs.Refusal.{checkOf};
+ghost use Rattle.format.specs.Refusal.{checkOf, number};
 ghost use Rattle.format.specs.RelPtr.{signedOffset, storedOffset, absentOffset};
 ghost use Rattle.format.specs.Align.{alignStep};
 ghost use Rattle.format.specs.Key.{packKey, fieldsOf};
 ghost use Rattle.format.specs.Check.{counted, checkArchive};
 ghost use Rattle.format.specs.Certify.{certify};
-ghost use Rattle.format.specs.Calls.{lookupCall, bytesCall, walkCall, walkKeys, walkValues};
+ghost use Rattle.format.specs.Calls.{lookupCall, bytesCall, walkCall, walkKeys, walkValues, rangeCall, rangeKeys, rangeValues, columnCall, columnKeys, columnValues};
 ghost use Rattle.fields.specs.Answers.{distanceOf, storedOf, alignedOf};
 ghost use Rattle.perimetry.specs.Answers.{packedOf, unpackedOf};
-ghost use Rattle.fieldmap.specs.Answers.{lookupOf, walkOf};
+ghost use Rattle.fieldmap.specs.Answers.{lookupOf, walkOf, rangeOf};
 
 pub enum LookupAnswer {
     Entry(Entry),
@@ -126,6 +129,61 @@ pub fn walk(archive: &[u8], keys: &mut [u64], values: &mut [u64]) -> WalkAnswer
     }
 }
 
+// Of a certified archive, writes keys and values of the entries that meet both bounds until the shorter list is full, and counts them all.
+pub fn range(archive: &[u8], lower: Bound, upper: Bound, keys: &mut [u64], values: &mut [u64]) -> RangeAnswer
+    ensures answer { λ r. ⌜ rangeOf r
+        ≡ rangeCall layout32 standard (now (archive .entry)) lower upper (now (keys .entry)) (now (values .entry)) ⌝ }
+    ensures keys { λ r. ⌜ now (keys .exit)
+        ≡ rangeKeys layout32 standard (now (archive .entry)) lower upper (now (keys .entry)) (now (values .entry)) ⌝ }
+    ensures values { λ r. ⌜ now (values .exit)
+        ≡ rangeValues layout32 standard (now (archive .entry)) lower upper (now (keys .entry)) (now (values .entry)) ⌝ }
+{
+    match certify(archive) {
+        CheckAnswer::Refused(why) => RangeAnswer::Refused(why),
+        CheckAnswer::Accepted(count) => {
+            if count == 0 {
+                return RangeAnswer::Matched(0, 0);
+            }
+            let record = Position(archive.len() - Layout::RECORD);
+            let root = pointed(archive, record);
+            let found = btree::iter::range_with(archive, root, lower, upper, keys, values);
+            RangeAnswer::Matched(found.written, found.matching)
+        }
+    }
+}
+
+// The range of a column query: one eye of one examination, x from a to b.
+pub fn column(
+    archive: &[u8],
+    examination: u32,
+    eye: u8,
+    a: i8,
+    b: i8,
+    keys: &mut [u64],
+    values: &mut [u64],
+) -> RangeAnswer
+    ensures answer { λ r. ⌜ rangeOf r
+        ≡ columnCall layout32 standard (now (archive .entry)) examination eye a b (now (keys .entry)) (now (values .entry)) ⌝ }
+    ensures keys { λ r. ⌜ now (keys .exit)
+        ≡ columnKeys layout32 standard (now (archive .entry)) examination eye a b (now (keys .entry)) (now (values .entry)) ⌝ }
+    ensures values { λ r. ⌜ now (values .exit)
+        ≡ columnValues layout32 standard (now (archive .entry)) examination eye a b (now (keys .entry)) (now (values .entry)) ⌝ }
+{
+    match column_bounds(examination, eye, a, b) {
+        Columns::Bounds(c) => {
+            let lower = c.lower;
+            let upper = c.upper;
+            range(archive, lower, upper, keys, values)
+        }
+        Columns::Refused(why) => {
+            if let CheckAnswer::Refused(first) = certify(archive) {
+                return RangeAnswer::Refused(first);
+            }
+            RangeAnswer::Refused(why)
+        }
+    }
+}
+
 // The signed difference of two positions.
 pub fn signed_offset(from: u64, to: u64) -> Distance
     ensures { λ r. ⌜ distanceOf r ≡ signedOffset from to ⌝ }
@@ -164,4 +222,30 @@ pub fn unpack(key: u64) -> KeyFields
     ensures { λ r. ⌜ unpackedOf r ≡ fieldsOf key ⌝ }
 {
     perimetry::key::unpack(key)
+}
+
+// A refusal's number in the order of the tests.
+pub fn refusal_number(why: Refusal) -> u64
+    ensures { λ r. ⌜ r ≡ number why ⌝ }
+{
+    match why {
+        Refusal::ArchiveTooLong => 1,
+        Refusal::InvalidSubtreePointer => 2,
+        Refusal::UnalignedPointer => 3,
+        Refusal::InvalidKind => 4,
+        Refusal::ExceededMaximumSubtreeDepth => 5,
+        Refusal::InvalidLength => 6,
+        Refusal::EntriesLengthMismatch => 7,
+        Refusal::HollowNode => 8,
+        Refusal::KeysNotAscending => 9,
+        Refusal::IteratorLengthMismatch => 10,
+        Refusal::TooManyEntries => 11,
+        Refusal::GivenKeysNotAscending => 12,
+        Refusal::HeaderTooLong => 13,
+        Refusal::OutputTooShort => 14,
+        Refusal::IsizeOverflow => 15,
+        Refusal::OffsetOverflow => 16,
+        Refusal::InvalidAlignment => 17,
+        Refusal::KeyFieldOverflow => 18,
+    }
 }
