@@ -1,0 +1,581 @@
+// The streaming builder (rkyv's src/collections/btree/map.rs): nodes are closed one after the other, each behind its children.
+use crate::inline_vec::OpenInner;
+use crate::inline_vec::OpenLeaf;
+use crate::inline_vec::Pair;
+use crate::inline_vec::Slot;
+use crate::ser_vec::OpenInners;
+use crate::words::put_five;
+use crate::words::put_six;
+use fields::primitive::put_u64;
+use fields::rel_ptr::Stored;
+use fields::rel_ptr::absent_offset;
+use fields::rel_ptr::offset32;
+use fields::twos::bits32;
+use format::Child;
+use format::Layout;
+use format::Position;
+ghost use mathlib.Core.Path.{_≡_};
+ghost use Prim.Native.Nat.{_+_, _-_, _<_, _≤_};
+ghost use lib.ListN.{length};
+ghost use Rattle.format.specs.Layout.{layout32};
+ghost use Rattle.format.specs.Bytes.{leBytes, put};
+ghost use Rattle.format.specs.Tree.{emplaced, offsetBytes};
+ghost use Rattle.fields.specs.Answers.{storedOf};
+ghost use Rattle.builder.specs.Machine.{entryAt, fitOf, fillS, runS};
+ghost use Rattle.builder.specs.Leaves.{takes, shutOf, outOf, Told, Strides, StridesAt, Rises, Crosses, CrossesAt, Roomy, Sized, restOf, stateOf};
+ghost use Rattle.builder.specs.Nodes.{leafBytes, lesserBytes, innerBytes};
+
+fn stored_bits(s: Stored) -> u32
+    ensures { λ r. ⌜ leBytes 4 r ≡ emplaced layout32 (storedOf s) ⌝ }
+{
+    match s {
+        Stored::Offset(z) => bits32(z),
+        Stored::Refused(_) => 0,
+    }
+}
+
+// The offset that the field at a position stores for a child; zero where it is refused.
+pub fn offset_bits(field: usize, child: Child) -> u32
+    ensures { λ r. ⌜ leBytes 4 r ≡ offsetBytes layout32 field child ⌝ }
+{
+    match child {
+        Child::At(p) => {
+            let to = p.0;
+            stored_bits(offset32(field as u64, to as u64))
+        }
+        Child::Absent => stored_bits(absent_offset(field as u64)),
+    }
+}
+
+// The offset of the i-th slot's lesser child; zero where a node of `len` slots has none.
+fn lesser_bits(field: usize, s: Slot, i: usize, len: usize) -> u32
+    ensures { λ r. ⌜ leBytes 4 r ≡ lesserBytes field i len s ⌝ }
+{
+    if i < len {
+        let child = s.lesser;
+        return offset_bits(field, child);
+    }
+    0
+}
+
+// A leaf, closed at `pos`: where the next node goes.
+fn close_leaf(out: &mut [u8], pos: usize, leaf: OpenLeaf) -> usize
+    requires { ⌜ pos + 96 ≤ length (now out) ⌝ }
+    ensures at { λ r. ⌜ r ≡ pos + 96 ⌝ }
+    ensures bytes { λ r. ⌜ now (out .exit) ≡ put (now (out .entry)) pos (leafBytes (leaf .entries) (leaf .len)) ⌝ }
+{
+    let a = leaf.entries[0];
+    let b = leaf.entries[1];
+    let c = leaf.entries[2];
+    let d = leaf.entries[3];
+    let e = leaf.entries[4];
+    let n = leaf.len as u64;
+    put_u64(out, pos, 0);
+    put_five(out, pos + Layout::KEYS, a.key, b.key, c.key, d.key, e.key);
+    put_five(out, pos + Layout::VALUES, a.value, b.value, c.value, d.value, e.value);
+    put_u64(out, pos + Layout::NODE, n);
+    pos + Layout::LEAF
+}
+
+// An inner node with its greater child, closed at `pos`: where the next node goes.
+fn close_inner(out: &mut [u8], pos: usize, node: OpenInner, greater: Child) -> usize
+    requires { ⌜ pos + 112 ≤ length (now out) ⌝ }
+    ensures at { λ r. ⌜ r ≡ pos + 112 ⌝ }
+    ensures bytes { λ r. ⌜ now (out .exit) ≡ put (now (out .entry)) pos (innerBytes pos node greater) ⌝ }
+{
+    let a = node.slots[0];
+    let b = node.slots[1];
+    let c = node.slots[2];
+    let d = node.slots[3];
+    let e = node.slots[4];
+    let n = node.len;
+    put_u64(out, pos, 1);
+    put_five(out, pos + Layout::KEYS, a.key, b.key, c.key, d.key, e.key);
+    put_five(out, pos + Layout::VALUES, a.value, b.value, c.value, d.value, e.value);
+    let fa = pos + Layout::NODE;
+    let fb = fa + Layout::POINTER;
+    let fc = fb + Layout::POINTER;
+    let fd = fc + Layout::POINTER;
+    let fe = fd + Layout::POINTER;
+    let fg = fe + Layout::POINTER;
+    let ao = lesser_bits(fa, a, 0, n);
+    let bo = lesser_bits(fb, b, 1, n);
+    let co = lesser_bits(fc, c, 2, n);
+    let dp = lesser_bits(fd, d, 3, n);
+    let eo = lesser_bits(fe, e, 4, n);
+    let go = offset_bits(fg, greater);
+    put_six(out, fa, ao, bo, co, dp, eo, go);
+    pos + Layout::INNER
+}
+
+// a less b, at least 0.
+fn less(a: usize, b: usize) -> usize
+    ensures { λ r. ⌜ r ≡ a - b ⌝ }
+{
+    if a < b { 0 } else { a - b }
+}
+
+// What stands at an index of the given entries.
+pub enum Next {
+    Got(Pair),
+    End,
+}
+
+// Whether a node of `size` bytes fits at a position, and where it ends.
+pub enum Fit {
+    End(usize),
+    NoRoom,
+}
+
+// An inner node that was filled, the child that is left for its greater one, and the next entry.
+pub struct Filled {
+    pub node: OpenInner,
+    pub child: Child,
+    pub next: usize,
+}
+
+fn entry_at(keys: &[u64], values: &[u64], i: usize) -> Next
+    ensures { λ r. ⌜ r ≡ entryAt (now (keys .entry)) (now (values .entry)) i ⌝ }
+{
+    if i < keys.len() {
+        if i < values.len() {
+            return Next::Got(Pair {
+                key: keys[i],
+                value: values[i],
+            });
+        }
+        return Next::End;
+    }
+    Next::End
+}
+
+fn fits_at(len: usize, at: usize, size: usize) -> Fit
+    ensures { λ r. ⌜ r ≡ fitOf len at size ⌝ }
+{
+    if at <= len {
+        if size <= len - at {
+            return Fit::End(at + size);
+        }
+        return Fit::NoRoom;
+    }
+    Fit::NoRoom
+}
+
+// An open node takes entries until it is full or none is left.
+fn fill(keys: &[u64], values: &[u64], node: OpenInner, child: Child, next: usize) -> Filled
+    ensures { λ r. ⌜ r ≡ fillS (5 - node .len) (now (keys .entry)) (now (values .entry)) node child next ⌝ }
+{
+    let mut n = node;
+    let mut c = child;
+    let mut i = next;
+    while n.len < 5 {
+        let Next::Got(e) = entry_at(keys, values, i) else {
+            return Filled {
+                node: n,
+                child: c,
+                next: i,
+            };
+        };
+        n = n.push(e, c);
+        c = Child::Absent;
+        i += 1;
+    }
+    Filled {
+        node: n,
+        child: c,
+        next: i,
+    }
+}
+
+// The lowest open inner node, the last closed child, the entries seen by leaves, the next entry and the next position.
+pub struct Low {
+    pub node: OpenInner,
+    pub child: Child,
+    pub count: usize,
+    pub next: usize,
+    pub at: usize,
+}
+
+// The last closed child and the next position.
+pub struct Shut {
+    pub child: Child,
+    pub at: usize,
+}
+
+// The number of open inner nodes, the last closed child, the next entry and the next position.
+pub struct Crossed {
+    pub rank: usize,
+    pub child: Child,
+    pub next: usize,
+    pub at: usize,
+}
+
+// The end of a leaf of five at a position, if it fits, is not the last level's last, and an entry comes after it.
+fn leaf_fits(len: usize, at: usize, count: usize, next: usize, ll: usize, n: usize) -> Fit
+    requires { ⌜ next ≤ n ⌝ }
+    ensures { λ r. ⌜ Told r len at count next ll n ⌝ }
+{
+    if n - next < 6 {
+        return Fit::NoRoom;
+    }
+    if len < 96 {
+        return Fit::NoRoom;
+    }
+    if len - 96 < at {
+        return Fit::NoRoom;
+    }
+    if ll <= count {
+        return Fit::End(at + Layout::LEAF);
+    }
+    if ll - count <= 5 {
+        return Fit::NoRoom;
+    }
+    Fit::End(at + Layout::LEAF)
+}
+
+// A leaf of five entries.
+fn leaf_at(keys: &[u64], values: &[u64], i: usize) -> OpenLeaf
+    requires { ⌜ (i + 5 ≤ length (now keys)) × (i + 5 ≤ length (now values)) ⌝ }
+    ensures { λ r. ⌜ r ≡ takes 5 (now (keys .entry)) (now (values .entry)) i ⌝ }
+{
+    let a = Pair {
+        key: keys[i],
+        value: values[i],
+    };
+    let b = Pair {
+        key: keys[i + 1],
+        value: values[i + 1],
+    };
+    let c = Pair {
+        key: keys[i + 2],
+        value: values[i + 2],
+    };
+    let d = Pair {
+        key: keys[i + 3],
+        value: values[i + 3],
+    };
+    let e = Pair {
+        key: keys[i + 4],
+        value: values[i + 4],
+    };
+    OpenLeaf {
+        entries: [a, b, c, d, e],
+        len: 5,
+    }
+}
+
+// A leaf of k entries.
+fn leaf_of(keys: &[u64], values: &[u64], i: usize, k: usize) -> OpenLeaf
+    requires { ⌜ (i + k ≤ length (now keys)) × (i + k ≤ length (now values)) ⌝ }
+    requires { ⌜ k ≤ 5 ⌝ }
+    ensures { λ r. ⌜ r ≡ takes k (now (keys .entry)) (now (values .entry)) i ⌝ }
+{
+    let mut l = OpenLeaf::new();
+    let mut j: usize = 0;
+    while j < k {
+        let e = Pair {
+            key: keys[i + j],
+            value: values[i + j],
+        };
+        l = l.push(e);
+        j += 1;
+    }
+    l
+}
+
+// A leaf is closed, if it fits.
+fn shut_leaf(out: &mut [u8], leaf: OpenLeaf, child: Child, at: usize) -> Shut
+    ensures state { λ r. ⌜ r ≡ shutOf (fitOf (length (now (out .entry))) at 96) child at ⌝ }
+    ensures bytes { λ r. ⌜ now (out .exit) ≡ outOf (fitOf (length (now (out .entry))) at 96) (now (out .entry)) at (leafBytes (leaf .entries) (leaf .len)) ⌝ }
+{
+    let Fit::End(end) = fits_at(out.len(), at, Layout::LEAF) else {
+        return Shut { child, at };
+    };
+    close_leaf(out, at, leaf);
+    let here = Child::At(Position(at));
+    Shut {
+        child: here,
+        at: end,
+    }
+}
+
+// An inner node is closed, if it fits.
+fn shut_node(out: &mut [u8], node: OpenInner, child: Child, at: usize) -> Shut
+    ensures state { λ r. ⌜ r ≡ shutOf (fitOf (length (now (out .entry))) at 112) child at ⌝ }
+    ensures bytes { λ r. ⌜ now (out .exit) ≡ outOf (fitOf (length (now (out .entry))) at 112) (now (out .entry)) at (innerBytes at node child) ⌝ }
+{
+    let Fit::End(end) = fits_at(out.len(), at, Layout::INNER) else {
+        return Shut { child, at };
+    };
+    close_inner(out, at, node, child);
+    let here = Child::At(Position(at));
+    Shut {
+        child: here,
+        at: end,
+    }
+}
+
+// The lowest open inner node takes leaves and entries while it has room.
+fn stride(out: &mut [u8], keys: &[u64], values: &[u64], ll: usize, low: Low) -> Low
+    requires { ⌜ (length (now keys) ≡ length (now values)) × (low .next ≤ length (now keys)) ⌝ }
+    requires { ⌜ (low .count ≤ low .next) ⌝ }
+    ensures bounds { λ r. ⌜ (r .next ≤ length (now (keys .entry))) × ((r .count ≤ r .next) × (low .next ≤ r .next)) ⌝ }
+    ensures went { λ r. ⌜ Strides (now (keys .entry)) (now (values .entry)) ll low (now (out .entry)) r (now (out .exit)) ⌝ }
+{
+    let mut node = low.node;
+    let mut child = low.child;
+    let mut count = low.count;
+    let mut next = low.next;
+    let mut at = low.at;
+    while node.len < 5 {
+        let Fit::End(end) = leaf_fits(out.len(), at, count, next, ll, keys.len()) else {
+            return Low {
+                node,
+                child,
+                count,
+                next,
+                at,
+            };
+        };
+        let l = leaf_at(keys, values, next);
+        close_leaf(out, at, l);
+        let after = next + 5;
+        let e = Pair {
+            key: keys[after],
+            value: values[after],
+        };
+        let here = Child::At(Position(at));
+        node = node.push(e, here);
+        child = Child::Absent;
+        at = end;
+        count += 5;
+        next += 6;
+    }
+    Low {
+        node,
+        child,
+        count,
+        next,
+        at,
+    }
+}
+
+// The last level has ended at `count` entries: the lowest open inner node is filled and closed.
+fn cross(
+    out: &mut [u8],
+    keys: &[u64],
+    values: &[u64],
+    inners: OpenInners,
+    child: Child,
+    next: usize,
+    at: usize,
+) -> Crossed
+    requires { ⌜ (inners .len ≤ 5) × (next ≤ length (now keys)) ⌝ }
+    ensures bounds { λ r. ⌜ (r .rank ≤ inners .len) × ((next ≤ r .next) × (r .next ≤ length (now (keys .entry)))) ⌝ }
+    ensures went { λ r. ⌜ Crosses (now (keys .entry)) (now (values .entry)) (inners .nodes) (inners .len) child next at (now (out .entry)) r (now (out .exit)) ⌝ }
+{
+    let rank = inners.len;
+    if rank == 0 {
+        return Crossed {
+            rank,
+            child,
+            next,
+            at,
+        };
+    }
+    let i = rank - 1;
+    let lowest = inners.nodes[i];
+    let filled = fill(keys, values, lowest, child, next);
+    let node = filled.node;
+    let greater = filled.child;
+    let shut = shut_node(out, node, greater, at);
+    let last = shut.child;
+    Crossed {
+        rank: i,
+        child: last,
+        next: filled.next,
+        at: shut.at,
+    }
+}
+
+// The full ones of the lowest open inner nodes are closed.
+fn rise(
+    out: &mut [u8],
+    inners: OpenInners,
+    rank: usize,
+    child: Child,
+    next: usize,
+    at: usize,
+) -> Crossed
+    requires { ⌜ (inners .len ≤ 5) × (rank ≤ inners .len) ⌝ }
+    ensures bounds { λ r. ⌜ (r .rank ≤ rank) × (r .next ≡ next) ⌝ }
+    ensures room { λ r. ⌜ Roomy (inners .nodes) (r .rank) ⌝ }
+    ensures went { λ r. ⌜ Rises (inners .nodes) rank child at (now (out .entry)) r (now (out .exit)) ⌝ }
+{
+    let mut o = rank;
+    let mut c = child;
+    let mut p = at;
+    while 0 < o {
+        let i = o - 1;
+        let lowest = inners.nodes[i];
+        if lowest.len < 5 {
+            return Crossed {
+                rank: o,
+                child: c,
+                next,
+                at: p,
+            };
+        }
+        let shut = shut_node(out, lowest, c, p);
+        c = shut.child;
+        p = shut.at;
+        o = i;
+    }
+    Crossed {
+        rank: o,
+        child: c,
+        next,
+        at: p,
+    }
+}
+
+// The same, if there is an open inner node.
+fn stride_at(out: &mut [u8], keys: &[u64], values: &[u64], ll: usize, rank: usize, low: Low) -> Low
+    requires { ⌜ (length (now keys) ≡ length (now values)) × (low .next ≤ length (now keys)) ⌝ }
+    requires { ⌜ (low .count ≤ low .next) × (rank ≤ 5) ⌝ }
+    ensures bounds { λ r. ⌜ (r .next ≤ length (now (keys .entry))) × ((r .count ≤ r .next) × (low .next ≤ r .next)) ⌝ }
+    ensures went { λ r. ⌜ StridesAt (now (keys .entry)) (now (values .entry)) ll rank low (now (out .entry)) r (now (out .exit)) ⌝ }
+{
+    if rank == 0 {
+        return low;
+    }
+    stride(out, keys, values, ll, low)
+}
+
+// The same, if the last level ends with `count` entries.
+fn cross_at(
+    out: &mut [u8],
+    keys: &[u64],
+    values: &[u64],
+    ll: usize,
+    count: usize,
+    inners: OpenInners,
+    child: Child,
+    next: usize,
+    at: usize,
+) -> Crossed
+    requires { ⌜ (inners .len ≤ 5) × (next ≤ length (now keys)) ⌝ }
+    ensures bounds { λ r. ⌜ (r .rank ≤ inners .len) × ((next ≤ r .next) × (r .next ≤ length (now (keys .entry)))) ⌝ }
+    ensures went { λ r. ⌜ CrossesAt (now (keys .entry)) (now (values .entry)) ll count (inners .nodes) (inners .len) child next at (now (out .entry)) r (now (out .exit)) ⌝ }
+{
+    if count == ll {
+        return cross(out, keys, values, inners, child, next, at);
+    }
+    let rank = inners.len;
+    Crossed {
+        rank,
+        child,
+        next,
+        at,
+    }
+}
+
+// The entries of the next leaf.
+fn leaf_size(count: usize, ll: usize) -> usize
+    ensures { λ r. ⌜ Sized r count ll ⌝ }
+{
+    if ll <= count {
+        return 5;
+    }
+    if ll - count < 5 {
+        return ll - count;
+    }
+    5
+}
+
+// All the entries, leaf by leaf.
+fn run(
+    out: &mut [u8],
+    keys: &[u64],
+    values: &[u64],
+    ll: usize,
+    start: OpenInners,
+    from: usize,
+) -> Shut
+    requires { ⌜ (length (now keys) ≡ length (now values)) × (start .len ≤ 5) ⌝ }
+    ensures state { λ r. ⌜ r ≡ restOf (runS (length (now (keys .entry))) (now (keys .entry)) (now (values .entry)) ll (stateOf (start .nodes) (start .len) Child.Absent 0 0 from) (now (out .entry)) .b) ⌝ }
+    ensures bytes { λ r. ⌜ now (out .exit) ≡ runS (length (now (keys .entry))) (now (keys .entry)) (now (values .entry)) ll (stateOf (start .nodes) (start .len) Child.Absent 0 0 from) (now (out .entry)) .out ⌝ }
+{
+    let mut inners = start;
+    let mut child = Child::Absent;
+    let mut count: usize = 0;
+    let mut next: usize = 0;
+    let mut at = from;
+    let mut below: usize = 0;
+    loop {
+        let rank = inners.len;
+        if 0 < below {
+            let fresh = OpenInner::new();
+            inners.nodes[rank] = fresh;
+            inners.len = rank + 1;
+            below -= 1;
+            continue;
+        }
+        let i = less(rank, 1);
+        let node = inners.nodes[i];
+        let low = Low {
+            node,
+            child,
+            count,
+            next,
+            at,
+        };
+        let s = stride_at(out, keys, values, ll, rank, low);
+        let held = s.node;
+        inners.nodes[i] = held;
+        let last = s.child;
+        let begin = s.next;
+        let k = leaf_size(s.count, ll);
+        if keys.len() - begin < k {
+            return Shut {
+                child: last,
+                at: s.at,
+            };
+        }
+        let l = leaf_of(keys, values, begin, k);
+        let t = shut_leaf(out, l, last, s.at);
+        let leaf = t.child;
+        let seen = s.count + k;
+        let x = cross_at(out, keys, values, ll, seen, inners, leaf, begin + k, t.at);
+        let top = x.rank;
+        let crossed = x.child;
+        let r = rise(out, inners, top, crossed, x.next, x.at);
+        let risen = r.child;
+        let open = r.rank;
+        let then = r.next;
+        if open == 0 {
+            inners.len = 0;
+            child = risen;
+            count = seen;
+            next = then;
+            at = r.at;
+            continue;
+        }
+        let Next::Got(e) = entry_at(keys, values, then) else {
+            return Shut {
+                child: risen,
+                at: r.at,
+            };
+        };
+        let j = open - 1;
+        let lowest = inners.nodes[j];
+        let grown = lowest.push(e, risen);
+        inners.nodes[j] = grown;
+        inners.len = open;
+        below = top - open;
+        child = Child::Absent;
+        count = seen;
+        next = then + 1;
+        at = r.at;
+    }
+}
