@@ -3,3 +3,4 @@ pub mod Answers
 pub mod Kept
 pub mod Leaves
 pub mod Lists
+pub mod Size

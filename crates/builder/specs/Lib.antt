@@ -1,3 +1,4 @@
 pub mod Nodes
 pub mod Machine
 pub mod Leaves
+pub mod Size
