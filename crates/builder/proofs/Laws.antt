@@ -1,10 +1,10 @@
 -- Runs of bytes that calls write one after the other, and the bytes of a node. Assumes nothing.
 use mathlib.Core.Path.{_≡_, refl, sym, ap, ap₂, _∙_}
 use mathlib.Core.List.{List, [], _∷_, _++_, map, append-assoc}
-use Prim.Native.Nat.{ℕ, zero, suc, _+_, _*_}
+use Prim.Native.Nat.{ℕ, zero, suc, _+_, _-_, _*_, _<_}
 use native.Mathlib.Omega.{arith}
 use native.Mathlib.Nat.{suc-ne-zero, suc-inj}
-use lib.ListN.{length, getD}
+use lib.ListN.{length, getD, set, replicate}
 use Rattle.format.specs.declared.Child.{Child}
 use Rattle.format.specs.Layout.{layout32}
 use Rattle.format.specs.Bytes.{leBytes, put}
@@ -99,3 +99,10 @@ inner-runs l o₁ o₂ o₃ o₄ p n z g q₀ q₁ q₂ q₃ q₄ q₅ h r₀ r�
   where
     mk : List Slot → List ℕ
     mk t = innerBytes p (record { slots = t; len = n .len }) g
+
+-- A zero is written: what is left to write is what was left.
+pub zeros-step : (l : List ℕ) (i to : ℕ) → i < to → put (set l i 0) (i + 1) (replicate (to - (i + 1)) 0) ≡ put l i (replicate (to - i) 0)
+zeros-step l i to h =
+    let e : to - i ≡ suc (to - (i + 1)) = omega arith in
+    let f : i + 1 ≡ suc i = omega arith in
+    rw (e, f)

@@ -3,4 +3,6 @@ pub mod Answers
 pub mod Kept
 pub mod Leaves
 pub mod Lists
-pub mod Size
+pub mod Weights
+pub mod Whole
+pub mod Refusals

@@ -4,8 +4,11 @@ use crate::inline_vec::OpenLeaf;
 use crate::inline_vec::Pair;
 use crate::inline_vec::Slot;
 use crate::ser_vec::OpenInners;
+use crate::size::depth_of;
+use crate::size::power_of_6;
 use crate::words::put_five;
 use crate::words::put_six;
+use fields::primitive::put_u32;
 use fields::primitive::put_u64;
 use fields::rel_ptr::Stored;
 use fields::rel_ptr::absent_offset;
@@ -19,7 +22,8 @@ ghost use Prim.Native.Nat.{_+_, _-_, _<_, _≤_};
 ghost use lib.ListN.{length};
 ghost use Rattle.format.specs.Layout.{layout32};
 ghost use Rattle.format.specs.Bytes.{leBytes, put};
-ghost use Rattle.format.specs.Tree.{emplaced, offsetBytes};
+ghost use Rattle.format.specs.Tree.{emplaced, offsetBytes, lengthBranch, childOf, writeBranch};
+ghost use Rattle.format.specs.Build.{treeOf, recordBytes, pairs};
 ghost use Rattle.fields.specs.Answers.{storedOf};
 ghost use Rattle.builder.specs.Machine.{entryAt, fitOf, fillS, runS};
 ghost use Rattle.builder.specs.Leaves.{takes, shutOf, outOf, Told, Strides, StridesAt, Rises, Crosses, CrossesAt, Roomy, Sized, restOf, stateOf};
@@ -578,4 +582,31 @@ fn run(
         next = then + 1;
         at = r.at;
     }
+}
+
+// The nodes of all entries, from position `at` on: the root, and where the next byte goes.
+pub fn serialize_from_ordered_iter(out: &mut [u8], at: usize, keys: &[u64], values: &[u64]) -> Shut
+    requires { ⌜ (length (now keys) ≡ length (now values)) × (0 < length (now keys)) ⌝ }
+    requires { ⌜ (length (now keys) ≤ 40000) × (at + lengthBranch layout32 (treeOf layout32 (pairs (now keys) (now values))) ≤ length (now out)) ⌝ }
+    ensures root { λ r. ⌜ r .child ≡ childOf layout32 (treeOf layout32 (pairs (now (keys .entry)) (now (values .entry)))) at ⌝ }
+    ensures place { λ r. ⌜ r .at ≡ at + lengthBranch layout32 (treeOf layout32 (pairs (now (keys .entry)) (now (values .entry)))) ⌝ }
+    ensures bytes { λ r. ⌜ now (out .exit) ≡ put (now (out .entry)) at (writeBranch layout32 (treeOf layout32 (pairs (now (keys .entry)) (now (values .entry)))) at) ⌝ }
+{
+    let n = keys.len();
+    let d = depth_of(n);
+    let p = power_of_6(d);
+    let ll = n - (p - 1);
+    let mut inners = OpenInners::new();
+    inners.len = d;
+    run(out, keys, values, ll, inners, at)
+}
+
+// The record: the root's offset and the count.
+pub fn resolve_from_len(out: &mut [u8], at: usize, root: Child, n: usize)
+    requires { ⌜ (at + 8 ≤ length (now out)) × (n ≤ 40000) ⌝ }
+    ensures { λ _. ⌜ now (out .exit) ≡ put (now (out .entry)) at (recordBytes layout32 at root n) ⌝ }
+{
+    let offset = offset_bits(at, root);
+    put_u32(out, at, offset);
+    put_u32(out, at + Layout::POINTER, n as u32);
 }

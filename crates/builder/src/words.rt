@@ -3,8 +3,8 @@ use fields::primitive::put_u32;
 use fields::primitive::put_u64;
 ghost use mathlib.Core.Path.{_≡_};
 ghost use mathlib.Core.List.{[], _∷_};
-ghost use Prim.Native.Nat.{_+_, _≤_};
-ghost use lib.ListN.{length};
+ghost use Prim.Native.Nat.{_+_, _-_, _≤_};
+ghost use lib.ListN.{length, replicate};
 ghost use Rattle.format.specs.Bytes.{put};
 ghost use Rattle.builder.specs.Nodes.{flat};
 
@@ -31,4 +31,16 @@ pub fn put_six(out: &mut [u8], at: usize, a: u32, b: u32, c: u32, d: u32, e: u32
     put_u32(out, at + 12, d);
     put_u32(out, at + 16, e);
     put_u32(out, at + 20, f);
+}
+
+// Zeros from one position to another.
+pub fn put_zeros(out: &mut [u8], from: usize, to: usize)
+    requires { ⌜ (from ≤ to) × (to ≤ length (now out)) ⌝ }
+    ensures { λ _. ⌜ now (out .exit) ≡ put (now (out .entry)) from (replicate (to - from) 0) ⌝ }
+{
+    let mut i = from;
+    while i < to {
+        out[i] = 0;
+        i += 1;
+    }
 }

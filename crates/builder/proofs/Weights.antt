@@ -7,6 +7,7 @@ use native.Mathlib.Nat.{pow-suc, mul-zero, mul-suc}
 use native.Mathlib.Decide.{decLt}
 use mathlib.Core.List.{List, [], _∷_}
 use lib.ListN.{length}
+use lib.Dec.{lit≤}
 use Rattle.format.specs.Layout.{layout32}
 use Rattle.format.specs.Tree.{Pair, lengthBranches, lengthBranch}
 use Rattle.format.specs.Build.{Filled, FilledBranches, fillNext, fillBranches, fill, height, lastLevel, treeOf}
@@ -117,6 +118,41 @@ weight-by zero m p t z e f = absurd (z refl)
 weight-by (suc k) m p t z e f =
     let q : suc k - 1 ≡ k = omega arith in
     rw (f, e, q) (sym (weight-size k m))
+
+-- ---- a bound
+
+weighs-le : (g : ℕ → ℕ) (c b : ℕ) → ((m : ℕ) → g m ≤ b) → (k m : ℕ) → weighs g c k m ≤ k * b
+weighs-le g c b h zero m = omega arith
+weighs-le g c b h (suc k) m = let i = weighs-le g c b h k (m - c) in omega (arith, h m)
+
+most : ℕ → ℕ
+most zero = 96
+most (suc l) = 6 * most l + 112
+
+leaf-most : (m : ℕ) → weight 0 m ≤ 96
+unfolding weight
+leaf-most zero = omega arith
+leaf-most (suc m) = omega arith
+
+weight-most : (l m : ℕ) → weight l m ≤ most l
+unfolding weight most
+weight-most zero m = leaf-most m
+weight-most (suc zero) zero = omega arith
+weight-most (suc zero) (suc m) = omega (arith, weighs-le (weight 0) 5 96 leaf-most 6 (suc m))
+weight-most (suc (suc l)) m = omega (arith, weighs-le (weight (suc l)) (5 * 6 ^ suc l) (most (suc l)) (λ i. weight-most (suc l) i) 6 m)
+
+most-small : (l : ℕ) → l ≤ 5 → most l ≤ 1000000
+unfolding most
+most-small zero h = lit≤ tt
+most-small (suc zero) h = lit≤ tt
+most-small (suc (suc zero)) h = lit≤ tt
+most-small (suc (suc (suc zero))) h = lit≤ tt
+most-small (suc (suc (suc (suc zero)))) h = lit≤ tt
+most-small (suc (suc (suc (suc (suc zero))))) h = lit≤ tt
+most-small (suc (suc (suc (suc (suc (suc l)))))) h = absurd (omega arith)
+
+pub weight-small : (l m : ℕ) → l ≤ 5 → weight l m ≤ 1000000
+weight-small l m h = omega (arith, weight-most l m, most-small l h)
 
 -- ---- the tree's length
 

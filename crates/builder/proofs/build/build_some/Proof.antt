@@ -1,0 +1,61 @@
+use mathlib.Core.Path.{_≡_, refl, sym, ap, _∙_}
+use Prim.Native.Nat.{ℕ, suc, _+_, _-_, _≤_, _<_}
+use native.Mathlib.Omega.{arith}
+use denote.Ref.{now}
+use lib.ListN.{length}
+use lib.Dec.{lit≤}
+use Rattle.builder.proofs.Whole.{is-8, end-tree, some-by}
+use borrow.Author.Needs.{needs}
+use Rattle.builder.proofs.build.build_some.Statement.{statement}
+use Rattle.builder.proofs.build.build_some.Tie as tie
+use Rattle.builder.proofs.build.build_some.Reads as reads
+use Rattle.builder.proofs.build.build_some.Lts as lts
+use Rattle.builder.proofs.map.resolve_from_len.Reads as resolve-from-len-reads
+use Rattle.builder.proofs.map.serialize_from_ordered_iter.Reads as serialize-from-ordered-iter-reads
+use Rattle.builder.proofs.size.start_of.Reads as start-of-reads
+use Rattle.builder.proofs.words.put_zeros.Reads as put-zeros-reads
+
+start-of-requires : tie.Need-start-of-requires
+start-of-requires c κs = (c .before .before .before .pre .1 .1 .0, (lit≤ tt, is-8))
+
+put-zeros-requires : tie.Need-put-zeros-requires
+put-zeros-requires c κs =
+    let e = end-tree (now (c .before .before .before .before .before .args .keys)) (now (c .before .before .before .before .before .args .values)) (c .before .before .before .before .before .pre .0 .0) (c .before .before .before .before .before .pre .0 .1) (c .before .before .before .before .before .pre .1 .0) (c .before .before .before .before .before .args .header) in
+    (omega (arith, c .before .start-of .ensures), omega (arith, e, c .before .before .before .before .before .pre .1 .1 .1, c .before .start-of .ensures))
+
+serialize-from-ordered-iter-requires : tie.Need-serialize-from-ordered-iter-requires
+serialize-from-ordered-iter-requires c κs =
+    let s = c .before .before .before .before .before .before .before .before .before in
+    let e = end-tree (now (c .before .before .before .before .before .before .before .before .before .args .keys)) (now (c .before .before .before .before .before .before .before .before .before .args .values)) (c .before .before .before .before .before .before .before .before .before .pre .0 .0) (c .before .before .before .before .before .before .before .before .before .pre .0 .1) (c .before .before .before .before .before .before .before .before .before .pre .1 .0) (c .before .before .before .before .before .before .before .before .before .args .header) in
+    (s .pre .0, (s .pre .1 .0, omega (arith, e, s .pre .1 .1 .1, c .before .before .before .before .before .start-of .ensures)))
+
+resolve-from-len-requires : tie.Need-resolve-from-len-requires
+resolve-from-len-requires c κs =
+    let s = c .before .before .before .before .before .before .before .before .before .before .before .before .before in
+    let e = end-tree (now (c .before .before .before .before .before .before .before .before .before .before .before .before .before .args .keys)) (now (c .before .before .before .before .before .before .before .before .before .before .before .before .before .args .values)) (c .before .before .before .before .before .before .before .before .before .before .before .before .before .pre .0 .0) (c .before .before .before .before .before .before .before .before .before .before .before .before .before .pre .0 .1) (c .before .before .before .before .before .before .before .before .before .before .before .before .before .pre .1 .0) (c .before .before .before .before .before .before .before .before .before .before .before .before .before .args .header) in
+    (omega (arith, e, s .pre .1 .1 .1, c .before .before .before .before .before .before .before .before .before .start-of .ensures, c .before .before .before .serialize-from-ordered-iter .ensures .1 .0), s .pre .1 .0)
+
+same-length : tie.Need-same-length
+same-length c = search needs
+
+returns : tie.Need-returns
+returns c =
+    let s = c .before .before .before .before .before .before .before .before .before .before .before .before .before .before .before .before in
+    let a = s .args in
+    let f = c .before .before .before .before .before .before .before .before .before .before .before .before .start-of in
+    let z = c .before .before .before .before .before .before .before .before .before .before .put-zeros in
+    let t = c .before .before .before .before .before .before .serialize-from-ordered-iter in
+    let r = c .before .before .resolve-from-len in
+    some-by (now (a .keys)) (now (a .values)) (s .pre .0 .0) (s .pre .0 .1) (s .pre .1 .0) (a .header) (f .result) (t .result .at) (t .result .child) (now (a .out)) (z .last .0) (t .last .0) (r .last .0)
+    (f .ensures) (t .ensures .1 .0) (t .ensures .0) (z .ensures) (t .ensures .1 .1) (r .ensures)
+
+pub build-some-spec : {M : Type 1} → statement M
+build-some-spec =
+    tie.close
+    (tie.spec
+    start-of-requires
+    put-zeros-requires
+    serialize-from-ordered-iter-requires
+    resolve-from-len-requires
+    same-length
+    returns)

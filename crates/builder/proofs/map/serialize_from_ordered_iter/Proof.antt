@@ -1,0 +1,64 @@
+use mathlib.Core.Path.{_≡_, refl, sym, ap, _∙_}
+use Prim.Native.Nat.{ℕ, suc, _+_, _-_, _≤_, _<_}
+use native.Mathlib.Omega.{arith}
+use denote.Ref.{now}
+use lib.ListN.{length}
+use Rattle.builder.specs.declared.map.Shut.{Shut}
+use Rattle.builder.proofs.Leaves.{opened-by}
+use Rattle.builder.proofs.Whole.{depth-bounds, wrote-by}
+use borrow.Author.Needs.{needs}
+use Rattle.builder.proofs.map.serialize_from_ordered_iter.Statement.{statement}
+use Rattle.builder.proofs.map.serialize_from_ordered_iter.Tie as tie
+use Rattle.builder.proofs.map.serialize_from_ordered_iter.Reads as reads
+use Rattle.builder.proofs.map.serialize_from_ordered_iter.Lts as lts
+use Rattle.builder.proofs.map.run.Reads as run-reads
+use Rattle.builder.proofs.ser_vec.OpenInners.new.Reads as new-reads
+use Rattle.builder.proofs.size.depth_of.Reads as depth-of-reads
+use Rattle.builder.proofs.size.power_of_6.Reads as power-of-6-reads
+
+depth-of-requires : tie.Need-depth-of-requires
+depth-of-requires c κs = search needs
+
+power-of-6-requires : tie.Need-power-of-6-requires
+power-of-6-requires c κs = depth-bounds (length (now (c .before .before .before .before .args .keys))) (c .depth-of .result) (c .before .before .before .before .pre .0 .1) (c .before .before .before .before .pre .1 .0) (c .depth-of .ensures) .low
+
+sub-ll : tie.Need-sub-ll
+sub-ll c = let h = depth-bounds (length (now (c .before .before .before .before .before .args .keys))) (c .before .depth-of .result) (c .before .before .before .before .before .pre .0 .1) (c .before .before .before .before .before .pre .1 .0) (c .before .depth-of .ensures) in omega (arith, h .some, h .power, c .power-of-6 .ensures)
+
+sub-ll-2 : tie.Need-sub-ll-2
+sub-ll-2 c = let h = depth-bounds (length (now (c .before .before .before .before .before .args .keys))) (c .before .depth-of .result) (c .before .before .before .before .before .pre .0 .1) (c .before .before .before .before .before .pre .1 .0) (c .before .depth-of .ensures) in omega (arith, h .some, h .power, c .power-of-6 .ensures)
+
+new-requires : tie.Need-new-requires
+new-requires c κs = search needs
+
+run-requires : tie.Need-run-requires
+run-requires c κs = (c .before .before .before .before .before .before .before .pre .0 .0, depth-bounds (length (now (c .before .before .before .before .before .before .before .args .keys))) (c .before .before .before .depth-of .result) (c .before .before .before .before .before .before .before .pre .0 .1) (c .before .before .before .before .before .before .before .pre .1 .0) (c .before .before .before .depth-of .ensures) .low)
+
+same-length : tie.Need-same-length
+same-length c = search needs
+
+returns : tie.Need-returns
+returns c =
+    let s = c .before .before .before .before .before .before .before .before .before .before in
+    let a = s .args in
+    let d = c .before .before .before .before .before .before .depth-of in
+    let q = c .before .before .before .before .before .power-of-6 in
+    let i = c .before .before .before .before .new in
+    let low = depth-bounds (length (now (a .keys))) (d .result) (s .pre .0 .1) (s .pre .1 .0) (d .ensures) in
+    let w = wrote-by (now (a .keys)) (now (a .values)) (s .pre .0 .0) (s .pre .0 .1) (s .pre .1 .0) (now (a .out)) (a .at) (s .pre .1 .1)
+    (d .result) (q .result) (record { nodes = i .result .nodes; len = d .result }) (d .ensures) (q .ensures) (opened-by (d .result) (i .result) (low .low) (i .ensures)) in
+    let r = c .before .before .run in
+    (ap (λ (x : Shut). x .child) (r .ensures .0) ∙ w .child, (ap (λ (x : Shut). x .at) (r .ensures .0) ∙ w .place, r .ensures .1 ∙ w .bytes))
+
+pub serialize-from-ordered-iter-spec : {M : Type 1} → statement M
+serialize-from-ordered-iter-spec =
+    tie.close
+    (tie.spec
+    depth-of-requires
+    power-of-6-requires
+    sub-ll
+    sub-ll-2
+    new-requires
+    run-requires
+    same-length
+    returns)

@@ -1,0 +1,88 @@
+// The archive's length by the number of entries, with no walk over them.
+use fields::ser::writer::Aligned;
+use fields::ser::writer::align;
+use format::Layout;
+ghost use mathlib.Core.Path.{_≡_};
+ghost use mathlib.Core.Bool.{true};
+ghost use Prim.Native.Nat.{min, _+_, _-_, _^_, _≤_};
+ghost use Rattle.format.specs.Layout.{layout32};
+ghost use Rattle.format.specs.Align.{isAlignment, zerosTo};
+ghost use Rattle.format.specs.Build.{height};
+ghost use Rattle.builder.specs.Size.{weight, endOf};
+
+// The levels above the last one.
+pub fn depth_of(n: usize) -> usize
+    requires { ⌜ n ≤ 40000 ⌝ }
+    ensures { λ r. ⌜ r ≡ height layout32 n - 1 ⌝ }
+{
+    let mut m = n;
+    let mut d: usize = 0;
+    while 6 <= m {
+        m = m / 6;
+        d += 1;
+    }
+    d
+}
+
+pub fn power_of_6(d: usize) -> usize
+    requires { ⌜ d ≤ 5 ⌝ }
+    ensures { λ r. ⌜ r ≡ 6 ^ d ⌝ }
+{
+    match d {
+        0 => 1,
+        1 => 6,
+        2 => 36,
+        3 => 216,
+        4 => 1296,
+        _ => 7776,
+    }
+}
+
+fn least(a: usize, b: usize) -> usize
+    ensures { λ r. ⌜ r ≡ min a b ⌝ }
+{
+    if a < b { a } else { b }
+}
+
+// The bytes of a subtree with l levels above the last one, which takes at most m entries. Over the last level stand p nodes, of which as many
+// as it needs are inner nodes; the others are full leaves.
+fn weight_of(l: usize, m: usize) -> usize
+    requires { ⌜ l ≤ 5 ⌝ }
+    ensures { λ r. ⌜ r ≡ weight l m ⌝ }
+{
+    if l == 0 {
+        if m == 0 {
+            return 0;
+        }
+        return Layout::LEAF;
+    }
+    let p = power_of_6(l - 1);
+    let t = least(m, 30 * p);
+    let leaves = (t + 4) / 5;
+    let inners = (t + 29) / 30;
+    Layout::LEAF * (leaves + (p - inners)) + Layout::INNER * (inners + (p - 1) / 5)
+}
+
+// The first position on an alignment, from the header's end on.
+pub fn start_of(header: usize, alignment: usize) -> usize
+    requires { ⌜ (header ≤ 4096) × ((alignment ≤ 8) × (isAlignment alignment ≡ true)) ⌝ }
+    ensures { λ r. ⌜ r ≡ header + zerosTo alignment header ⌝ }
+{
+    let Aligned::At { next, zeros } = align(header as u64, alignment as u64) else {
+        return header;
+    };
+    next as usize
+}
+
+// The archive's end behind a header.
+pub fn end_of(n: usize, header: usize) -> usize
+    requires { ⌜ (n ≤ 40000) × (header ≤ 4096) ⌝ }
+    ensures { λ r. ⌜ r ≡ endOf n header ⌝ }
+{
+    if n == 0 {
+        return start_of(header, Layout::RECORD_ALIGN) + Layout::RECORD;
+    }
+    let d = depth_of(n);
+    let p = power_of_6(d);
+    start_of(header, Layout::NODE_ALIGN) + weight_of(d, n - (p - 1)) + Layout::RECORD
+}
