@@ -54,9 +54,9 @@ fn build_some(out: &mut [u8], header: usize, keys: &[u64], values: &[u64])
     requires { ⌜ (length (now keys) ≤ 40000) × ((header ≤ 4096) × (endOf (length (now keys)) header ≤ length (now out))) ⌝ }
     ensures { λ _. ⌜ now (out .exit) ≡ put (now (out .entry)) header (behind layout32 header (treeOf layout32 (pairs (now (keys .entry)) (now (values .entry)))) (length (now (keys .entry)))) ⌝ }
 {
-    let at = start_of(header, Layout::NODE_ALIGN);
-    put_zeros(out, header, at);
-    let nodes = serialize_from_ordered_iter(out, at, keys, values);
+    let first = start_of(header, Layout::NODE_ALIGN);
+    put_zeros(out, header, first);
+    let nodes = serialize_from_ordered_iter(out, first, keys, values);
     let root = nodes.child;
     resolve_from_len(out, nodes.at, root, keys.len());
 }

@@ -25,7 +25,7 @@ pub struct OpenLeaf {
 }
 
 impl OpenLeaf {
-    pub fn new() -> Self
+    pub(crate) fn new() -> Self
         ensures { λ r. ⌜ r ≡ newLeaf ⌝ }
     {
         let none = Pair { key: 0, value: 0 };
@@ -35,7 +35,7 @@ impl OpenLeaf {
         }
     }
 
-    pub fn push(mut self, e: Pair) -> Self
+    pub(crate) fn push(mut self, e: Pair) -> Self
         requires { ⌜ self .len < 5 ⌝ }
         ensures { λ r. ⌜ r ≡ pushLeaf self e ⌝ }
     {
@@ -53,7 +53,7 @@ pub struct OpenInner {
 }
 
 impl OpenInner {
-    pub fn new() -> Self
+    pub(crate) fn new() -> Self
         ensures { λ r. ⌜ r ≡ newInner ⌝ }
     {
         let none = Slot {
@@ -68,7 +68,7 @@ impl OpenInner {
     }
 
     // Each arm has a constant index, so that the compiler keeps the node out of memory.
-    pub fn push(mut self, e: Pair, lesser: Child) -> Self
+    pub(crate) fn push(mut self, e: Pair, lesser: Child) -> Self
         requires { ⌜ self .len < 5 ⌝ }
         ensures { λ r. ⌜ r ≡ pushInner self e lesser ⌝ }
     {

@@ -39,7 +39,7 @@ fn stored_bits(s: Stored) -> u32
 }
 
 // The offset that the field at a position stores for a child; zero where it is refused.
-pub fn offset_bits(field: usize, child: Child) -> u32
+pub(crate) fn offset_bits(field: usize, child: Child) -> u32
     ensures { λ r. ⌜ leBytes 4 r ≡ offsetBytes layout32 field child ⌝ }
 {
     match child {
@@ -585,7 +585,7 @@ fn run(
 }
 
 // The nodes of all entries, from position `at` on: the root, and where the next byte goes.
-pub fn serialize_from_ordered_iter(out: &mut [u8], at: usize, keys: &[u64], values: &[u64]) -> Shut
+pub(crate) fn serialize_from_ordered_iter(out: &mut [u8], at: usize, keys: &[u64], values: &[u64]) -> Shut
     requires { ⌜ (length (now keys) ≡ length (now values)) × (0 < length (now keys)) ⌝ }
     requires { ⌜ (length (now keys) ≤ 40000) × (at + lengthBranch layout32 (treeOf layout32 (pairs (now keys) (now values))) ≤ length (now out)) ⌝ }
     ensures root { λ r. ⌜ r .child ≡ childOf layout32 (treeOf layout32 (pairs (now (keys .entry)) (now (values .entry)))) at ⌝ }
@@ -602,7 +602,7 @@ pub fn serialize_from_ordered_iter(out: &mut [u8], at: usize, keys: &[u64], valu
 }
 
 // The record: the root's offset and the count.
-pub fn resolve_from_len(out: &mut [u8], at: usize, root: Child, n: usize)
+pub(crate) fn resolve_from_len(out: &mut [u8], at: usize, root: Child, n: usize)
     requires { ⌜ (at + 8 ≤ length (now out)) × (n ≤ 40000) ⌝ }
     ensures { λ _. ⌜ now (out .exit) ≡ put (now (out .entry)) at (recordBytes layout32 at root n) ⌝ }
 {

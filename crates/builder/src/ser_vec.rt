@@ -9,7 +9,7 @@ pub struct OpenInners {
 }
 
 impl OpenInners {
-    pub fn new() -> Self
+    pub(crate) fn new() -> Self
         ensures { λ r. ⌜ r ≡ newInners ⌝ }
     {
         let none = OpenInner::new();

@@ -11,7 +11,7 @@ ghost use Rattle.format.specs.Build.{height};
 ghost use Rattle.builder.specs.Size.{weight, endOf};
 
 // The levels above the last one.
-pub fn depth_of(n: usize) -> usize
+pub(crate) fn depth_of(n: usize) -> usize
     requires { ⌜ n ≤ 40000 ⌝ }
     ensures { λ r. ⌜ r ≡ height layout32 n - 1 ⌝ }
 {
@@ -24,7 +24,7 @@ pub fn depth_of(n: usize) -> usize
     d
 }
 
-pub fn power_of_6(d: usize) -> usize
+pub(crate) fn power_of_6(d: usize) -> usize
     requires { ⌜ d ≤ 5 ⌝ }
     ensures { λ r. ⌜ r ≡ 6 ^ d ⌝ }
 {
@@ -64,7 +64,7 @@ fn weight_of(l: usize, m: usize) -> usize
 }
 
 // The first position on an alignment, from the header's end on.
-pub fn start_of(header: usize, alignment: usize) -> usize
+pub(crate) fn start_of(header: usize, alignment: usize) -> usize
     requires { ⌜ (header ≤ 4096) × ((alignment ≤ 8) × (isAlignment alignment ≡ true)) ⌝ }
     ensures { λ r. ⌜ r ≡ header + zerosTo alignment header ⌝ }
 {
@@ -75,7 +75,7 @@ pub fn start_of(header: usize, alignment: usize) -> usize
 }
 
 // The archive's end behind a header.
-pub fn end_of(n: usize, header: usize) -> usize
+pub(crate) fn end_of(n: usize, header: usize) -> usize
     requires { ⌜ (n ≤ 40000) × (header ≤ 4096) ⌝ }
     ensures { λ r. ⌜ r ≡ endOf n header ⌝ }
 {

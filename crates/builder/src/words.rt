@@ -9,7 +9,7 @@ ghost use Rattle.format.specs.Bytes.{put};
 ghost use Rattle.builder.specs.Nodes.{flat};
 
 // Five words of eight bytes.
-pub fn put_five(out: &mut [u8], at: usize, a: u64, b: u64, c: u64, d: u64, e: u64)
+pub(crate) fn put_five(out: &mut [u8], at: usize, a: u64, b: u64, c: u64, d: u64, e: u64)
     requires { ⌜ at + 40 ≤ length (now out) ⌝ }
     ensures { λ _. ⌜ now (out .exit) ≡ put (now (out .entry)) at (flat 8 (a ∷ b ∷ c ∷ d ∷ e ∷ [])) ⌝ }
 {
@@ -21,7 +21,7 @@ pub fn put_five(out: &mut [u8], at: usize, a: u64, b: u64, c: u64, d: u64, e: u6
 }
 
 // Six words of four bytes.
-pub fn put_six(out: &mut [u8], at: usize, a: u32, b: u32, c: u32, d: u32, e: u32, f: u32)
+pub(crate) fn put_six(out: &mut [u8], at: usize, a: u32, b: u32, c: u32, d: u32, e: u32, f: u32)
     requires { ⌜ at + 24 ≤ length (now out) ⌝ }
     ensures { λ _. ⌜ now (out .exit) ≡ put (now (out .entry)) at (flat 4 (a ∷ b ∷ c ∷ d ∷ e ∷ f ∷ [])) ⌝ }
 {
@@ -34,7 +34,7 @@ pub fn put_six(out: &mut [u8], at: usize, a: u32, b: u32, c: u32, d: u32, e: u32
 }
 
 // Zeros from one position to another.
-pub fn put_zeros(out: &mut [u8], from: usize, to: usize)
+pub(crate) fn put_zeros(out: &mut [u8], from: usize, to: usize)
     requires { ⌜ (from ≤ to) × (to ≤ length (now out)) ⌝ }
     ensures { λ _. ⌜ now (out .exit) ≡ put (now (out .entry)) from (replicate (to - from) 0) ⌝ }
 {
