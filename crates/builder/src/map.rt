@@ -1,4 +1,4 @@
-// The streaming builder (rkyv's src/collections/btree/map.rs): nodes are closed one after the other, each behind its children.
+// The streaming builder (rkyv's src/collections/btree/map/mod.rs): nodes are closed one after the other, each behind its children.
 use crate::inline_vec::OpenInner;
 use crate::inline_vec::OpenLeaf;
 use crate::inline_vec::Pair;

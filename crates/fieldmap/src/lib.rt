@@ -1,6 +1,7 @@
 // The calls of the archived field map. Any bytes, lists, positions and lengths may be passed: each call answers, or gives a listed refusal and
 // leaves what was lent as it was.
 use btree::node::pointed;
+use builder::build::BuildAnswer;
 use fields::rel_ptr::Distance;
 use fields::rel_ptr::Stored;
 use fields::ser::writer::Aligned;
@@ -16,6 +17,7 @@ use perimetry::column::column_bounds;
 use perimetry::key::KeyFields;
 use perimetry::key::Packed;
 ghost use mathlib.Core.Path.{_≡_};
+ghost use lib.ListN.{length};
 ghost use Rattle.format.specs.Layout.{layout32, standard};
 ghost use Rattle.format.specs.Refusal.{checkOf, number};
 ghost use Rattle.format.specs.RelPtr.{signedOffset, storedOffset, absentOffset};
@@ -23,8 +25,10 @@ ghost use Rattle.format.specs.Align.{alignStep};
 ghost use Rattle.format.specs.Key.{packKey, fieldsOf};
 ghost use Rattle.format.specs.Check.{counted, checkArchive};
 ghost use Rattle.format.specs.Certify.{certify};
+ghost use Rattle.format.specs.Build.{build, outAfter};
 ghost use Rattle.format.specs.Calls.{lookupCall, bytesCall, walkCall, walkKeys, walkValues, rangeCall, rangeKeys, rangeValues, columnCall, columnKeys, columnValues};
 ghost use Rattle.fields.specs.Answers.{distanceOf, storedOf, alignedOf};
+ghost use Rattle.builder.specs.Answers.{builtOf};
 ghost use Rattle.perimetry.specs.Answers.{packedOf, unpackedOf};
 ghost use Rattle.fieldmap.specs.Answers.{lookupOf, walkOf, rangeOf};
 
@@ -182,6 +186,14 @@ pub fn column(
             RangeAnswer::Refused(why)
         }
     }
+}
+
+// Writes the given entries as an archive behind the first `header` bytes of the output, which stay, and answers the archive's end.
+pub fn build(out: &mut [u8], header: usize, keys: &[u64], values: &[u64]) -> BuildAnswer
+    ensures answer { λ r. ⌜ builtOf r ≡ build layout32 (now (keys .entry)) (now (values .entry)) header (length (now (out .entry))) ⌝ }
+    ensures bytes { λ r. ⌜ now (out .exit) ≡ outAfter layout32 (now (keys .entry)) (now (values .entry)) header (now (out .entry)) ⌝ }
+{
+    builder::build::build(out, header, keys, values)
 }
 
 // The signed difference of two positions.
