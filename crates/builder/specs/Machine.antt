@@ -160,4 +160,3 @@ runS (suc k) ks vs ll s out =
       | Got e ↦ (let t = turnS ks vs ll e s out in runS k ks vs ll (t .b) (t .out))
       | End ↦ record { b = s; out = out }
     ]
-

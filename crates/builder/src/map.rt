@@ -76,7 +76,15 @@ fn close_leaf(out: &mut [u8], pos: usize, leaf: OpenLeaf) -> usize
     let n = leaf.len as u64;
     put_u64(out, pos, 0);
     put_five(out, pos + Layout::KEYS, a.key, b.key, c.key, d.key, e.key);
-    put_five(out, pos + Layout::VALUES, a.value, b.value, c.value, d.value, e.value);
+    put_five(
+        out,
+        pos + Layout::VALUES,
+        a.value,
+        b.value,
+        c.value,
+        d.value,
+        e.value,
+    );
     put_u64(out, pos + Layout::NODE, n);
     pos + Layout::LEAF
 }
@@ -95,7 +103,15 @@ fn close_inner(out: &mut [u8], pos: usize, node: OpenInner, greater: Child) -> u
     let n = node.len;
     put_u64(out, pos, 1);
     put_five(out, pos + Layout::KEYS, a.key, b.key, c.key, d.key, e.key);
-    put_five(out, pos + Layout::VALUES, a.value, b.value, c.value, d.value, e.value);
+    put_five(
+        out,
+        pos + Layout::VALUES,
+        a.value,
+        b.value,
+        c.value,
+        d.value,
+        e.value,
+    );
     let fa = pos + Layout::NODE;
     let fb = fa + Layout::POINTER;
     let fc = fb + Layout::POINTER;
@@ -585,7 +601,12 @@ fn run(
 }
 
 // The nodes of all entries, from position `at` on: the root, and where the next byte goes.
-pub(crate) fn serialize_from_ordered_iter(out: &mut [u8], at: usize, keys: &[u64], values: &[u64]) -> Shut
+pub(crate) fn serialize_from_ordered_iter(
+    out: &mut [u8],
+    at: usize,
+    keys: &[u64],
+    values: &[u64],
+) -> Shut
     requires { ⌜ (length (now keys) ≡ length (now values)) × (0 < length (now keys)) ⌝ }
     requires { ⌜ (length (now keys) ≤ 40000) × (at + lengthBranch layout32 (treeOf layout32 (pairs (now keys) (now values))) ≤ length (now out)) ⌝ }
     ensures root { λ r. ⌜ r .child ≡ childOf layout32 (treeOf layout32 (pairs (now (keys .entry)) (now (values .entry)))) at ⌝ }

@@ -134,7 +134,13 @@ pub fn walk(archive: &[u8], keys: &mut [u64], values: &mut [u64]) -> WalkAnswer
 }
 
 // Of a certified archive, writes keys and values of the entries that meet both bounds until the shorter list is full, and counts them all.
-pub fn range(archive: &[u8], lower: Bound, upper: Bound, keys: &mut [u64], values: &mut [u64]) -> RangeAnswer
+pub fn range(
+    archive: &[u8],
+    lower: Bound,
+    upper: Bound,
+    keys: &mut [u64],
+    values: &mut [u64],
+) -> RangeAnswer
     ensures answer { λ r. ⌜ rangeOf r
         ≡ rangeCall layout32 standard (now (archive .entry)) lower upper (now (keys .entry)) (now (values .entry)) ⌝ }
     ensures keys { λ r. ⌜ now (keys .exit)
