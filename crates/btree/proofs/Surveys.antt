@@ -5,7 +5,7 @@ use native.Mathlib.Omega.{arith}
 use native.Mathlib.Nat.{sub-zero}
 use native.Mathlib.Numerals.{add-one}
 use mathlib.Core.List.{List, [], _∷_}
-use mathlib.Core.Bool.{Bool, true, false}
+use mathlib.Core.Bool.{Bool, true, false, not, _||_, or-true, or-false, or-assoc, and-false}
 use lib.ListN.{getD}
 use lib.Dec.{ltb, eqb}
 use borrow.Author.Tests.{ltb-true, ltb-false, le-ltb, lt-ltb}
@@ -20,7 +20,7 @@ use Rattle.format.specs.Certify.{hollow, anyChild, anyChildren, anyBody, hollow
 use Rattle.format.specs.Laws.Children.{childAt, onChild, on-at, on-absent, any-child, hollowBody}
 use Rattle.format.specs.Laws.Node.{Node, kind-leaf, as-inner, hollow-node}
 use Rattle.format.specs.Laws.Written.{runs}
-use Rattle.btree.specs.Survey.{either, ascending, after, step}
+use Rattle.btree.specs.Survey.{after, step}
 use Rattle.btree.specs.declared.certify.KeyOrder.{KeyOrder}
 use Rattle.btree.proofs.Runs.{one-left}
 
@@ -33,11 +33,7 @@ module _ (o : KeyOrder) (key : ℕ) where
 
   pub after-above : o .last < key → record { some = true; last = key; ascends = o .ascends } ≡ after key o
   unfolding after
-  after-above h = go (o .some) refl
-    where
-      go : (b : Bool) → o .some ≡ b → record { some = true; last = key; ascends = o .ascends } ≡ after key o
-      go true e = rw (e, lt-ltb (o .last) key h)
-      go false e = rw e
+  after-above h = rw (lt-ltb (o .last) key h, or-true (not (o .some)))
 
   pub after-none : o .some ≡ false → record { some = true; last = key; ascends = o .ascends } ≡ after key o
   unfolding after
@@ -48,12 +44,7 @@ module _ (o : KeyOrder) (key : ℕ) where
 stays-false : (l : List Entry) (o : KeyOrder) → o .ascends ≡ false → runs step l o .ascends ≡ false
 unfolding runs after
 stays-false [] o e = e
-stays-false (x ∷ xs) o e = stays-false xs (after (x .key) o) (go (o .some) (ltb (o .last) (x .key)))
-  where
-    go : (a b : Bool) → ascending a b (o .ascends) ≡ false
-    go true true = e
-    go true false = refl
-    go false b = e
+stays-false (x ∷ xs) o e = stays-false xs (after (x .key) o) (rw e (and-false (not (o .some) || ltb (o .last) (x .key))))
 
 runs-from : (l : List Entry) (k : ℕ) → runs step l (record { some = true; last = k; ascends = true }) .ascends ≡ ascendsFrom k l
 unfolding runs
@@ -81,39 +72,31 @@ order-done l o e = ap (λ (z : KeyOrder). z .ascends) e ∙ runs-ascends l
 
 -- ---- the flag for hollow nodes
 
-either-either : (a b c : Bool) → either (either a b) c ≡ either a (either b c)
-either-either true b c = refl
-either-either false b c = refl
-
-either-false : (a : Bool) → either a false ≡ a
-either-false true = refl
-either-false false = refl
-
 module _ (L : Layout) (s : List ℕ) where
-  body-either : (any : ℕ → Bool) (p : ℕ) → hollowBody L s any p (kind L s p) ≡ either (hollow L s p (kind L s p)) (anyBody L s any p (kind L s p))
+  body-or : (any : ℕ → Bool) (p : ℕ) → hollowBody L s any p (kind L s p) ≡ (hollow L s p (kind L s p) || anyBody L s any p (kind L s p))
   unfolding hollowBody
-  body-either any p = go (hollow L s p (kind L s p)) refl
+  body-or any p = go (hollow L s p (kind L s p)) refl
     where
       go : (b : Bool) → hollow L s p (kind L s p) ≡ b
-          → hollowBody L s any p (kind L s p) ≡ either (hollow L s p (kind L s p)) (anyBody L s any p (kind L s p))
+          → hollowBody L s any p (kind L s p) ≡ (hollow L s p (kind L s p) || anyBody L s any p (kind L s p))
       go true e = rw (e, hollowBody)
       go false e = rw (e, hollowBody)
 
-  children-either : (any : ℕ → Bool) (p k i : ℕ) → anyChildren L s any p (suc k) i ≡ either (anyChild L s any (child L p i)) (anyChildren L s any p k (suc i))
+  children-or : (any : ℕ → Bool) (p k i : ℕ) → anyChildren L s any p (suc k) i ≡ (anyChild L s any (child L p i) || anyChildren L s any p k (suc i))
   unfolding anyChildren
-  children-either any p k i = go (anyChild L s any (child L p i)) refl
+  children-or any p k i = go (anyChild L s any (child L p i)) refl
     where
       go : (b : Bool) → anyChild L s any (child L p i) ≡ b
-          → anyChildren L s any p (suc k) i ≡ either (anyChild L s any (child L p i)) (anyChildren L s any p k (suc i))
+          → anyChildren L s any p (suc k) i ≡ (anyChild L s any (child L p i) || anyChildren L s any p k (suc i))
       go true e = rw (e, anyChildren)
       go false e = rw (e, anyChildren)
 
   any-more : (any : ℕ → Bool) (p n i : ℕ) → i < n
-      → anyChildren L s any p (n - i) i ≡ either (onChild false any (childAt L s (child L p i))) (anyChildren L s any p (n - (i + 1)) (i + 1))
+      → anyChildren L s any p (n - i) i ≡ (onChild false any (childAt L s (child L p i)) || anyChildren L s any p (n - (i + 1)) (i + 1))
   any-more any p n i h =
       rw (one-left n i h, add-one i)
-      (children-either any p (n - suc i) i
-      ∙ ap (λ (z : Bool). either z (anyChildren L s any p (n - suc i) (suc i))) (any-child L s any (child L p i)))
+      (children-or any p (n - suc i) i
+      ∙ ap (λ (z : Bool). z || anyChildren L s any p (n - suc i) (suc i)) (any-child L s any (child L p i)))
 
   any-last : (any : ℕ → Bool) (p n i : ℕ) → n ≤ i → anyChildren L s any p (n - i) i ≡ onChild false any (childAt L s (child L p i))
   unfolding anyChildren
@@ -122,58 +105,58 @@ module _ (L : Layout) (s : List ℕ) where
   -- ---- a child: r is what was read of its field, h the flag before it and h₁ after it
 
   module _ (any : ℕ → Bool) (p i : ℕ) (r : Child) (h : Bool) (c : r ≡ childAt L s (child L p i)) where
-    pub child-flagged : (q : Position) (h₁ : Bool) → r ≡ At q → h₁ ≡ either h (any (q .0)) → h₁ ≡ either h (onChild false any (childAt L s (child L p i)))
-    child-flagged q h₁ k e = e ∙ ap (either h) (sym (on-at false any (childAt L s (child L p i)) q (sym c ∙ k)))
+    pub child-flagged : (q : Position) (h₁ : Bool) → r ≡ At q → h₁ ≡ (h || any (q .0)) → h₁ ≡ (h || onChild false any (childAt L s (child L p i)))
+    child-flagged q h₁ k e = e ∙ ap (λ (z : Bool). h || z) (sym (on-at false any (childAt L s (child L p i)) q (sym c ∙ k)))
 
-    pub child-unflagged : r ≡ Absent → h ≡ either h (onChild false any (childAt L s (child L p i)))
-    child-unflagged k = sym (ap (either h) (on-absent false any (childAt L s (child L p i)) (sym c ∙ k)) ∙ either-false h)
+    pub child-unflagged : r ≡ Absent → h ≡ (h || onChild false any (childAt L s (child L p i)))
+    child-unflagged k = sym (ap (λ (z : Bool). h || z) (on-absent false any (childAt L s (child L p i)) (sym c ∙ k)) ∙ or-false h)
 
   -- ---- the loop over the lesser children: g is what the flag comes to
 
-  pub flag-step : (any : ℕ → Bool) (p n i : ℕ) (h h₁ g : Bool) → i < n → h₁ ≡ either h (onChild false any (childAt L s (child L p i)))
-      → either h (anyChildren L s any p (n - i) i) ≡ g → either h₁ (anyChildren L s any p (n - (i + 1)) (i + 1)) ≡ g
+  pub flag-step : (any : ℕ → Bool) (p n i : ℕ) (h h₁ g : Bool) → i < n → h₁ ≡ (h || onChild false any (childAt L s (child L p i)))
+      → (h || anyChildren L s any p (n - i) i) ≡ g → (h₁ || anyChildren L s any p (n - (i + 1)) (i + 1)) ≡ g
   flag-step any p n i h h₁ g l e q =
-      ap (λ (z : Bool). either z (anyChildren L s any p (n - (i + 1)) (i + 1))) e
-      ∙ either-either h (onChild false any (childAt L s (child L p i))) (anyChildren L s any p (n - (i + 1)) (i + 1))
-      ∙ ap (either h) (sym (any-more any p n i l)) ∙ q
+      ap (λ (z : Bool). z || anyChildren L s any p (n - (i + 1)) (i + 1)) e
+      ∙ or-assoc h (onChild false any (childAt L s (child L p i))) (anyChildren L s any p (n - (i + 1)) (i + 1))
+      ∙ ap (λ (z : Bool). h || z) (sym (any-more any p n i l)) ∙ q
 
   -- ---- the node itself: h₀ is the flag before it
 
-  pub own-leaf : (p x : ℕ) (h₀ : Bool) → h₀ ≡ false → getD s p 0 ≡ 0 → x ≡ leafCount L s p → eqb x 0 ≡ either h₀ (hollow L s p (kind L s p))
+  pub own-leaf : (p x : ℕ) (h₀ : Bool) → h₀ ≡ false → getD s p 0 ≡ 0 → x ≡ leafCount L s p → eqb x 0 ≡ (h₀ || hollow L s p (kind L s p))
   unfolding hollow
   own-leaf p x h₀ f h e = rw (f, kind-leaf L s p h, e)
 
 module _ (L : Layout) (M : Limits) (s : List ℕ) where
-  pub own-inner : (p : ℕ) (h₀ b : Bool) → h₀ ≡ false → Node L M s p → (getD s p 0 ≡ 0 → ⊥) → b ≡ absent L s (p + headSize L) → b ≡ either h₀ (hollow L s p (kind L s p))
+  pub own-inner : (p : ℕ) (h₀ b : Bool) → h₀ ≡ false → Node L M s p → (getD s p 0 ≡ 0 → ⊥) → b ≡ absent L s (p + headSize L) → b ≡ (h₀ || hollow L s p (kind L s p))
   unfolding hollow
   own-inner p h₀ b f v h e = rw (f, as-inner L M s v h .is) (e ∙ ap (absent L s) (omega arith))
 
   hollow-leaf : (p : ℕ) → Node L M s p → getD s p 0 ≡ 0 → hollowAt L s (nested M) p ≡ hollow L s p (kind L s p)
   unfolding anyBody
-  hollow-leaf p v h = hollow-node L M s p v ∙ body-either L s (hollowAt L s (nested M)) p ∙ rw (kind-leaf L s p h) (either-false _)
+  hollow-leaf p v h = hollow-node L M s p v ∙ body-or L s (hollowAt L s (nested M)) p ∙ rw (kind-leaf L s p h) (or-false _)
 
   hollow-inner : (p : ℕ) → Node L M s p → (getD s p 0 ≡ 0 → ⊥)
-      → hollowAt L s (nested M) p ≡ either (hollow L s p (kind L s p)) (anyChildren L s (hollowAt L s (nested M)) p (L .entries) 0)
+      → hollowAt L s (nested M) p ≡ (hollow L s p (kind L s p) || anyChildren L s (hollowAt L s (nested M)) p (L .entries) 0)
   unfolding anyBody
   hollow-inner p v h =
-      hollow-node L M s p v ∙ body-either L s (hollowAt L s (nested M)) p ∙ ap (λ (z : Bool). either (hollow L s p (kind L s p)) z) (rw (as-inner L M s v h .is))
+      hollow-node L M s p v ∙ body-or L s (hollowAt L s (nested M)) p ∙ ap (λ (z : Bool). hollow L s p (kind L s p) || z) (rw (as-inner L M s v h .is))
 
   -- ---- the whole node: h₂ is the flag with the node's own
 
-  pub leaf-flag : (p : ℕ) (h₀ h₂ : Bool) → Node L M s p → getD s p 0 ≡ 0 → h₂ ≡ either h₀ (hollow L s p (kind L s p)) → h₂ ≡ either h₀ (hollowAt L s (nested M) p)
-  leaf-flag p h₀ h₂ v z e = e ∙ ap (either h₀) (sym (hollow-leaf p v z))
+  pub leaf-flag : (p : ℕ) (h₀ h₂ : Bool) → Node L M s p → getD s p 0 ≡ 0 → h₂ ≡ (h₀ || hollow L s p (kind L s p)) → h₂ ≡ (h₀ || hollowAt L s (nested M) p)
+  leaf-flag p h₀ h₂ v z e = e ∙ ap (λ (z : Bool). h₀ || z) (sym (hollow-leaf p v z))
 
   -- After the loop: the greater child, which takes h to h₁.
   pub flag-done : (p i : ℕ) (h h₁ h₀ h₂ : Bool) → Node L M s p → (getD s p 0 ≡ 0 → ⊥) → L .entries ≤ i → i ≤ L .entries
-      → h₂ ≡ either h₀ (hollow L s p (kind L s p))
-      → h₁ ≡ either h (onChild false (hollowAt L s (nested M)) (childAt L s (child L p (L .entries))))
-      → either h (anyChildren L s (hollowAt L s (nested M)) p (L .entries - i) i) ≡ either h₂ (anyChildren L s (hollowAt L s (nested M)) p (L .entries - 0) 0)
-      → h₁ ≡ either h₀ (hollowAt L s (nested M) p)
+      → h₂ ≡ (h₀ || hollow L s p (kind L s p))
+      → h₁ ≡ (h || onChild false (hollowAt L s (nested M)) (childAt L s (child L p (L .entries))))
+      → (h || anyChildren L s (hollowAt L s (nested M)) p (L .entries - i) i) ≡ (h₂ || anyChildren L s (hollowAt L s (nested M)) p (L .entries - 0) 0)
+      → h₁ ≡ (h₀ || hollowAt L s (nested M) p)
   flag-done p i h h₁ h₀ h₂ v z l k e₂ e₁ e =
       let y : i ≡ L .entries = omega arith in
-      let a : either h (anyChildren L s (hollowAt L s (nested M)) p (L .entries - i) i) ≡ h₁ =
-      ap (either h) (rw y (any-last L s (hollowAt L s (nested M)) p (L .entries) (L .entries) (omega arith))) ∙ sym e₁ in
-      let b : either h₂ (anyChildren L s (hollowAt L s (nested M)) p (L .entries - 0) 0) ≡ either h₀ (hollowAt L s (nested M) p) =
+      let a : (h || anyChildren L s (hollowAt L s (nested M)) p (L .entries - i) i) ≡ h₁ =
+      ap (λ (z : Bool). h || z) (rw y (any-last L s (hollowAt L s (nested M)) p (L .entries) (L .entries) (omega arith))) ∙ sym e₁ in
+      let b : (h₂ || anyChildren L s (hollowAt L s (nested M)) p (L .entries - 0) 0) ≡ (h₀ || hollowAt L s (nested M) p) =
       rw (sub-zero (L .entries), e₂)
-      (either-either h₀ (hollow L s p (kind L s p)) (anyChildren L s (hollowAt L s (nested M)) p (L .entries) 0) ∙ ap (either h₀) (sym (hollow-inner p v z))) in
+      (or-assoc h₀ (hollow L s p (kind L s p)) (anyChildren L s (hollowAt L s (nested M)) p (L .entries) 0) ∙ ap (λ (z : Bool). h₀ || z) (sym (hollow-inner p v z))) in
       sym a ∙ e ∙ b

@@ -8,6 +8,7 @@ use format::Child;
 use format::Layout;
 use format::Position;
 ghost use mathlib.Core.Path.{_≡_};
+ghost use mathlib.Core.Bool.{_||_};
 ghost use Prim.Native.Nat.{_+_, _<_, _≤_};
 ghost use lib.ListN.{length};
 ghost use Rattle.format.specs.Layout.{layout32, standard, nested, headSize};
@@ -16,7 +17,7 @@ ghost use Rattle.format.specs.Entries.{slots, listAt};
 ghost use Rattle.format.specs.Certify.{hollow, hollowAt, ascends};
 ghost use Rattle.format.specs.Laws.Node.{Node, LeafNode};
 ghost use Rattle.format.specs.Laws.Written.{runs};
-ghost use Rattle.btree.specs.Survey.{either, after, step};
+ghost use Rattle.btree.specs.Survey.{after, step};
 
 // The keys passed: whether there was one, the last, and whether each was above the one before.
 pub struct KeyOrder {
@@ -36,15 +37,13 @@ fn note_key(order: KeyOrder, key: u64) -> KeyOrder
     let some = order.some;
     let last = order.last;
     let mut ascends = order.ascends;
-    if some {
-        if key <= last {
-            ascends = false;
-        }
+    if some && key <= last {
+        ascends = false;
     }
     KeyOrder {
         some: true,
         last: key,
-        ascends: ascends,
+        ascends,
     }
 }
 
@@ -72,10 +71,10 @@ fn note_leaf(archive: &[u8], pos: Position, start: KeyOrder) -> KeyOrder
     order
 }
 
-// Whether a hollow node is known already, or this one is hollow: an empty leaf, or an inner node whose first child is absent.
+// Whether a hollow node is known or this one is hollow: an empty leaf, or an inner node whose first child is absent.
 fn note_hollow(archive: &[u8], pos: Position, known: bool) -> bool
     requires { ⌜ Node layout32 standard (now archive) (pos .0) ⌝ }
-    ensures { λ r. ⌜ r ≡ either known (hollow layout32 (now (archive .entry)) (pos .0) (kind layout32 (now (archive .entry)) (pos .0))) ⌝ }
+    ensures { λ r. ⌜ r ≡ (known || hollow layout32 (now (archive .entry)) (pos .0) (kind layout32 (now (archive .entry)) (pos .0))) ⌝ }
 {
     if known {
         return true;
@@ -87,18 +86,18 @@ fn note_hollow(archive: &[u8], pos: Position, known: bool) -> bool
     is_invalid_at(archive, Position(p + Layout::NODE))
 }
 
-// The nodes from `pos` on, after the keys in `start` and the hollow nodes known.
+// The nodes from `pos` on, after the keys passed at the start; `known` tells whether a hollow node is known already.
 fn certify_raw(archive: &[u8], pos: Position, start: KeyOrder, known: bool) -> Survey
     requires { ⌜ Node layout32 standard (now archive) (pos .0) ⌝ }
     ensures { λ r. ⌜ (r .order ≡ runs step (listAt layout32 (now (archive .entry)) (nested standard) (pos .0)) start)
-        × (r .hollow ≡ either known (hollowAt layout32 (now (archive .entry)) (nested standard) (pos .0))) ⌝ }
+        × (r .hollow ≡ (known || hollowAt layout32 (now (archive .entry)) (nested standard) (pos .0))) ⌝ }
 {
     let p = pos.0;
     let mut hollow = note_hollow(archive, pos, known);
     if archive[p] == 0 {
         return Survey {
             order: note_leaf(archive, pos, start),
-            hollow: hollow,
+            hollow,
         };
     }
     let mut order = start;
@@ -115,13 +114,10 @@ fn certify_raw(archive: &[u8], pos: Position, start: KeyOrder, known: bool) -> S
     if let Child::At(q) = child_at(archive, pos, Layout::ENTRIES) {
         return certify_raw(archive, q, order, hollow);
     }
-    Survey {
-        order: order,
-        hollow: hollow,
-    }
+    Survey { order, hollow }
 }
 
-// The nodes from the root on; fault 8 is looked for in all of them, so that a caller can tell it before 9.
+// The nodes from the root on. A hollow node anywhere comes before keys that do not ascend, so neither ends the pass.
 pub fn certify(archive: &[u8], root: Position) -> Survey
     requires { ⌜ Node layout32 standard (now archive) (root .0) ⌝ }
     ensures { λ r. ⌜ (r .hollow ≡ hollowAt layout32 (now (archive .entry)) (nested standard) (root .0))

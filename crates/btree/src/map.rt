@@ -55,10 +55,7 @@ fn visit_raw(
     ensures { λ r. ⌜ out (now (keys .exit)) (now (values .exit)) r
         ≡ fill (listAt layout32 (now (archive .entry)) (nested standard) (pos .0)) (out (now (keys .entry)) (now (values .entry)) start) ⌝ }
 {
-    if keys.len() <= start {
-        return start;
-    }
-    if values.len() <= start {
+    if keys.len() <= start || values.len() <= start {
         return start;
     }
     let p = pos.0;
@@ -89,14 +86,13 @@ pub fn visit(archive: &[u8], root: Position, keys: &mut [u64], values: &mut [u64
     visit_raw(archive, root, keys, values, 0)
 }
 
-// Of a node's slots, the first whose key is not below the one sought: that key itself, or one above it, which stands at n where there is
-// none.
+// The first slot whose key is not below the one sought: equal to it, or above it. Where all keys are below, the place past them.
 enum Seek {
     Equal(usize),
     Less(usize),
 }
 
-// Looks at n slots.
+// Of a node's first n slots.
 fn seek_slot(archive: &[u8], pos: Position, key: u64, n: usize) -> Seek
     requires { ⌜ (pos .0 + headSize layout32 ≤ length (now archive)) × (n ≤ layout32 .entries) ⌝ }
     ensures { λ r. ⌜ r ≡ seekAt layout32 (now (archive .entry)) (pos .0) key n 0 ⌝ }
@@ -152,7 +148,6 @@ pub fn get_bytes<'a>(archive: &'a [u8], pos: Position, key: u64) -> &'a [u8]
         return &archive[0..0];
     };
     let at = e.position;
-    let a = at.0;
-    let b = a + 8;
-    &archive[a..b]
+    let p = at.0;
+    &archive[p..p + 8]
 }

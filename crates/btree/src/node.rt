@@ -65,13 +65,11 @@ pub(crate) fn visit_key_value_raw(
     ensures { λ r. ⌜ out (now (keys .exit)) (now (values .exit)) r
         ≡ put (slot layout32 (now (archive .entry)) (pos .0) i) (out (now (keys .entry)) (now (values .entry)) at) ⌝ }
 {
-    if at < keys.len() {
-        if at < values.len() {
-            let e = slot(archive, pos, i);
-            keys[at] = e.key;
-            values[at] = e.value;
-            return at + 1;
-        }
+    if at < keys.len() && at < values.len() {
+        let e = slot(archive, pos, i);
+        keys[at] = e.key;
+        values[at] = e.value;
+        return at + 1;
     }
     at
 }

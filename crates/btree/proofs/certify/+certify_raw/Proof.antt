@@ -2,7 +2,7 @@
 use Prim.Native.Nat.{ℕ, _+_, _-_, _≤_, _<_}
 use mathlib.Core.Path.{_≡_}
 use mathlib.Core.List.{[]}
-use mathlib.Core.Bool.{false}
+use mathlib.Core.Bool.{false, _||_}
 use mathlib.Core.Logic.{⊎-elim}
 use native.Mathlib.Omega.{arith}
 use lib.ListN.{length}
@@ -13,7 +13,7 @@ use Rattle.format.specs.Certify.{anyChildren, hollowAt}
 use Rattle.format.specs.Laws.Children.{onChild, childAt}
 use Rattle.format.specs.Laws.Node.{as-leaf, as-inner, node-room, child-falls}
 use Rattle.format.specs.Laws.Written.{runs}
-use Rattle.btree.specs.Survey.{either, step}
+use Rattle.btree.specs.Survey.{step}
 use Rattle.btree.proofs.Runs.{child-run, child-skipped, inner-step, inner-done, leaf-run}
 use Rattle.btree.proofs.Surveys.{leaf-flag, child-flagged, child-unflagged, flag-step, flag-done}
 use borrow.Author.Needs.{needs}
@@ -43,7 +43,7 @@ Inv-loop archive pos known p hollow₀ order₀ i₀ hollow order i =
     let left = listChildren layout32 archive (listAt layout32 archive (nested standard)) (pos .0) in
     let any = anyChildren layout32 archive (hollowAt layout32 archive (nested standard)) (pos .0) in
     (i ≤ 5) × (pos .0 + leafSize layout32 ≤ length archive) × (runs step (left (5 - i) i) order ≡ runs step (left (5 - i₀) i₀) order₀)
-    × (either hollow (any (5 - i) i) ≡ either hollow₀ (any (5 - i₀) i₀))
+    × ((hollow || any (5 - i) i) ≡ (hollow₀ || any (5 - i₀) i₀))
 
 abbrev μ-loop : lts.MeasureT-loop
 μ-loop archive pos known p hollow₀ order₀ i₀ hollow order i = 5 - i
@@ -61,16 +61,18 @@ joined : (t : ℕ) (c : Of t lts.At-match-came) →
     let a = c .before .before .before .before .before .before .before .before .args in
     let f = childAt layout32 (a .archive .now) (child layout32 (a .pos .0) (o .i)) in
     (c .match .order ≡ runs step (onChild [] (listAt layout32 (a .archive .now) (nested standard)) f) (o .order))
-    × (c .match .hollow ≡ either (o .hollow) (onChild false (hollowAt layout32 (a .archive .now) (nested standard)) f))
+    × (c .match .hollow ≡ (o .hollow || onChild false (hollowAt layout32 (a .archive .now) (nested standard)) f))
 joined t c =
+    let o = c .before .before .before .loop in
+    let any = hollowAt layout32 (c .before .before .before .before .before .before .before .before .args .archive .now) (nested standard) in
     ⊎-elim
     (λ w. (
       rw (w .6) (child-run _ _ _ _ _ _ _ _ _ _ (c .before .child-at .ensures) (w .1 .given .1) (w .3 .ensures .0)),
-      rw (w .5) (child-flagged layout32 _ (hollowAt layout32 _ (nested standard)) _ _ _ (c .before .before .before .loop .hollow) (c .before .child-at .ensures) _ _ (w .1 .given .1) (w .3 .ensures .1)),
+      rw (w .5) (child-flagged layout32 _ any _ _ _ (o .hollow) (c .before .child-at .ensures) _ _ (w .1 .given .1) (w .3 .ensures .1)),
     ))
     (λ w. (
       rw (w .3) (child-skipped _ _ _ _ _ _ _ _ (c .before .child-at .ensures) (w .1 .given .1)),
-      rw (w .2) (child-unflagged layout32 _ (hollowAt layout32 _ (nested standard)) _ _ _ (c .before .before .before .loop .hollow) (c .before .child-at .ensures) (w .1 .given .1)),
+      rw (w .2) (child-unflagged layout32 _ any _ _ _ (o .hollow) (c .before .child-at .ensures) (w .1 .given .1)),
     ))
     (c .match .came)
 
@@ -93,17 +95,20 @@ child-at-requires : (t : ℕ) → Of t lts.Need-child-at-requires
 child-at-requires t c κs = (search as-inner, omega arith)
 
 certify-raw-requires : (t : ℕ) → Of t lts.Need-certify-raw-requires
-certify-raw-requires t c κs = child-falls layout32 _ _ _ (search) (search) (search) (omega arith) (c .before .before .before .child-at .ensures) (c .before .q .given .1)
+certify-raw-requires t c κs =
+    child-falls layout32 _ _ _ (search) (search) (search) (omega arith) (c .before .before .before .child-at .ensures) (c .before .q .given .1)
 
 loop-again : (t : ℕ) → Of t lts.Need-loop-again
-loop-again t c = let j = joined t (c .before) in
+loop-again t c =
+    let j = joined t (c .before) in
     (search needs, search needs, search (inner-step, j .0), search (flag-step, j .1))
 
 child-at-requires-2 : (t : ℕ) → Of t lts.Need-child-at-requires-2
 child-at-requires-2 t c κs = (search as-inner, omega arith)
 
 certify-raw-requires-2 : (t : ℕ) → Of t lts.Need-certify-raw-requires-2
-certify-raw-requires-2 t c κs = child-falls layout32 _ _ 5 (search) (search) (search) (omega arith) (c .before .before .before .child-at2 .ensures) (c .before .q2 .given .1)
+certify-raw-requires-2 t c κs =
+    child-falls layout32 _ _ 5 (search) (search) (search) (omega arith) (c .before .before .before .child-at2 .ensures) (c .before .q2 .given .1)
 
 returns-2 : (t : ℕ) → Of t lts.Need-returns-2
 returns-2 t c = (search (inner-done, child-run), search (flag-done, child-flagged))

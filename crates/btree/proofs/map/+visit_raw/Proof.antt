@@ -14,6 +14,7 @@ use Rattle.format.specs.Laws.Written.{out, fill}
 use Rattle.btree.proofs.Fills.{full-kept}
 use Rattle.btree.proofs.Runs.{child-run, child-skipped, inner-step, inner-done, leaf-run}
 use borrow.Author.Needs.{needs}
+use borrow.Author.Tests.{leb-true}
 use borrow.Fn.Kinds.{In, Out}
 use borrow.Fn.PlainCycle.{Measures, is, falls, and}
 use Rattle.btree.proofs.map.visit_raw.Reads as visit-raw
@@ -73,10 +74,12 @@ joined t c =
     (c .match .came)
 
 returns : (t : ℕ) → Of t lts.Need-returns
-returns t c = full-kept _ _ _ _ (omega arith)
-
-returns-2 : (t : ℕ) → Of t lts.Need-returns-2
-returns-2 t c = full-kept _ _ _ _ (omega arith)
+returns t c =
+    let a = c .before .before .before .before .args in
+    ⊎-elim
+    (λ w. full-kept _ _ _ _ (omega (arith, w .taken)))
+    (λ w. full-kept _ _ _ _ (omega (arith, leb-true (length (a .values .now)) (a .start) (w .1 .taken))))
+    (c .if1 .came)
 
 shared-slice-read-if3 : (t : ℕ) → Of t lts.Need-shared-slice-read-if3
 shared-slice-read-if3 t c = omega (arith, node-room layout32 _ _ (c .before .before .before .before .before .before .pre .1))
@@ -84,8 +87,8 @@ shared-slice-read-if3 t c = omega (arith, node-room layout32 _ _ (c .before .bef
 visit-leaf-requires : (t : ℕ) → Of t lts.Need-visit-leaf-requires
 visit-leaf-requires t c κs = search as-leaf
 
-returns-3 : (t : ℕ) → Of t lts.Need-returns-3
-returns-3 t c = search leaf-run
+returns-2 : (t : ℕ) → Of t lts.Need-returns-2
+returns-2 t c = search leaf-run
 
 loop-holds : (t : ℕ) → Of t lts.Need-loop-holds
 loop-holds t c = search (node-room, needs)
@@ -111,11 +114,11 @@ visit-raw-requires-2 t c κs =
     let at-q = c .before .before .before in
     child-falls layout32 _ _ 5 (search) (search) (search) (omega arith) (at-q .before .before .child-at2 .ensures) (at-q .q2 .given .1)
 
-returns-4 : (t : ℕ) → Of t lts.Need-returns-4
-returns-4 t c = search (inner-done, child-run)
+returns-3 : (t : ℕ) → Of t lts.Need-returns-3
+returns-3 t c = search (inner-done, child-run)
 
-returns-5 : (t : ℕ) → Of t lts.Need-returns-5
-returns-5 t c = search (inner-done, child-skipped)
+returns-4 : (t : ℕ) → Of t lts.Need-returns-4
+returns-4 t c = search (inner-done, child-skipped)
 
 pub +visit-raw-spec : {M : Type 1} → statement M
 +visit-raw-spec =
@@ -123,12 +126,11 @@ pub +visit-raw-spec : {M : Type 1} → statement M
     Inv-loop
     μ-loop
     (returns t)
-    (returns-2 t)
     (shared-slice-read-if3 t)
     (visit-leaf-requires t)
     (search needs)
     (search needs)
-    (returns-3 t)
+    (returns-2 t)
     (loop-holds t)
     (child-at-requires t)
     (search needs)
@@ -144,7 +146,7 @@ pub +visit-raw-spec : {M : Type 1} → statement M
     (search needs)
     (search needs)
     (search needs)
+    (returns-3 t)
+    (search needs)
+    (search needs)
     (returns-4 t)
-    (search needs)
-    (search needs)
-    (returns-5 t)

@@ -12,12 +12,14 @@ get-key-value-raw-requires c κs = search needs
 returns : tie.Need-returns
 returns c = search bytes-none
 
-add-b : tie.Need-add-b
-add-b c = let e = c .before .before in
+add-result : tie.Need-add-result
+add-result c =
+    let e = c .before .before in
     omega (arith, found-room layout32 _ _ _ _ _ (e .before .before .get-key-value-raw .ensures) _ (e .before .before .before .before .pre) (e .e .given .1))
 
 part-result-end-2 : tie.Need-part-result-end-2
-part-result-end-2 c = let e = c .before .before in
+part-result-end-2 c =
+    let e = c .before .before in
     found-room layout32 _ _ _ _ _ (e .before .before .get-key-value-raw .ensures) _ (e .before .before .before .before .pre) (e .e .given .1)
 
 returns-2 : tie.Need-returns-2
@@ -34,7 +36,7 @@ get-bytes-spec =
     (search needs)
     (search needs)
     returns
-    add-b
+    add-result
     (search needs)
     (search needs)
     part-result-end-2
