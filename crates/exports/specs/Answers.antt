@@ -1,0 +1,27 @@
+-- Answers as one number: what is given, or 2^32 and a refusal's number. Assumes nothing: these are definitions.
+use Prim.Native.Nat.{ℕ, _+_}
+use Rattle.format.specs.declared.Found.{Found}
+use Rattle.format.specs.declared.Found.the-variants.{Entry as found, Nothing as nothing}
+use Rattle.format.specs.Refusal.{Answer, gives, refuses}
+use Rattle.format.specs.Calls.{Walk}
+
+abbrev pub coded : Answer ℕ → ℕ
+coded (gives n) = n
+coded (refuses r) = 4294967296 + r
+
+-- Of a walk, the number written.
+abbrev pub codedWalk : Answer Walk → ℕ
+codedWalk (gives w) = w .written
+codedWalk (refuses r) = 4294967296 + r
+
+-- Of a lookup, 1 for an entry and 0 for none.
+abbrev pub codedFound : Answer Found → ℕ
+codedFound (gives (found e)) = 1
+codedFound (gives nothing) = 0
+codedFound (refuses r) = 4294967296 + r
+
+-- What a place that held v holds after a lookup: the entry's value, or v where there is no entry.
+abbrev pub valueAfter : Answer Found → ℕ → ℕ
+valueAfter (gives (found e)) v = e .value
+valueAfter (gives nothing) v = v
+valueAfter (refuses r) v = v
