@@ -3,6 +3,8 @@
 //! A slice passes as a pointer and a length. An answer of 2^32 and more is a refusal, with its number added to 2^32. Nothing checks these
 //! declarations against the library's source.
 
+use std::ops::Bound;
+
 extern "C" {
     fn fieldmap_check(archive: *const u8, archive_len: usize) -> u64;
 
@@ -32,10 +34,43 @@ extern "C" {
         values: *mut u64,
         values_len: usize,
     ) -> u64;
+
+    fn fieldmap_range(
+        archive: *const u8,
+        archive_len: usize,
+        lower_kind: u8,
+        lower: u64,
+        upper_kind: u8,
+        upper: u64,
+        keys: *mut u64,
+        keys_len: usize,
+        values: *mut u64,
+        values_len: usize,
+        matching: *mut u64,
+    ) -> u64;
+
+    fn fieldmap_build(
+        out: *mut u8,
+        out_len: usize,
+        header: usize,
+        keys: *const u64,
+        keys_len: usize,
+        values: *const u64,
+        values_len: usize,
+    ) -> u64;
 }
 
 fn answer(code: u64) -> Result<u32, u8> {
     u32::try_from(code).map_err(|_| (code - (1 << 32)) as u8)
+}
+
+/// A bound's kind and key; an open bound's key is not read.
+fn passed(bound: Bound<u64>) -> (u8, u64) {
+    match bound {
+        Bound::Included(key) => (0, key),
+        Bound::Excluded(key) => (1, key),
+        Bound::Unbounded => (2, 0),
+    }
 }
 
 /// The recorded count, or the refusal.
@@ -84,6 +119,51 @@ pub fn lookup_many(archive: &[u8], keys: &[u64], values: &mut [u64]) -> Result<u
             keys.as_ptr(),
             keys.len(),
             values.as_mut_ptr(),
+            values.len(),
+        )
+    })
+}
+
+/// The number of entries written and the number matching, in an archive that certify accepts, or the refusal.
+pub fn range(
+    archive: &[u8],
+    lower: Bound<u64>,
+    upper: Bound<u64>,
+    keys: &mut [u64],
+    values: &mut [u64],
+) -> Result<(u32, u64), u8> {
+    let ((lower_kind, lower), (upper_kind, upper)) = (passed(lower), passed(upper));
+    let mut matching = 0;
+    // SAFETY: as above; the number's place is a local.
+    let written = answer(unsafe {
+        fieldmap_range(
+            archive.as_ptr(),
+            archive.len(),
+            lower_kind,
+            lower,
+            upper_kind,
+            upper,
+            keys.as_mut_ptr(),
+            keys.len(),
+            values.as_mut_ptr(),
+            values.len(),
+            &mut matching,
+        )
+    })?;
+    Ok((written, matching))
+}
+
+/// The archive's end in the output, behind a header of so many bytes that stay, or the refusal.
+pub fn build(output: &mut [u8], header: usize, keys: &[u64], values: &[u64]) -> Result<u32, u8> {
+    // SAFETY: as above; the header is a number that the call holds against the output's length.
+    answer(unsafe {
+        fieldmap_build(
+            output.as_mut_ptr(),
+            output.len(),
+            header,
+            keys.as_ptr(),
+            keys.len(),
+            values.as_ptr(),
             values.len(),
         )
     })

@@ -6,6 +6,7 @@
 
 use std::env;
 use std::fmt::Debug;
+use std::ops::Bound;
 use std::process::ExitCode;
 
 use compare::counts::Counts;
@@ -15,6 +16,9 @@ use compare::trees::{self, Random};
 
 /// Keys and pairs of bounds asked of each archive.
 const QUESTIONS: usize = 8;
+
+/// A lower and an upper bound.
+type Bounds = (Bound<u64>, Bound<u64>);
 
 fn main() -> ExitCode {
     let mut arguments = env::args().skip(1).map(|text| text.parse::<u64>());
@@ -69,11 +73,17 @@ fn compare(archive: &Archive, random: &mut Random) -> Result<(), String> {
     };
     let keys: Vec<u64> = entries.iter().map(|entry| entry.0).collect();
     let sought = trees::sought(&keys, QUESTIONS, random);
+    let ranges: Vec<Bounds> = (0..QUESTIONS)
+        .map(|_| trees::bounds(&keys, random))
+        .collect();
     if let Ok(accepted) = &checked {
-        readers(bytes, accepted, &entries, &sought, random)?;
+        readers(bytes, accepted, &entries, &sought, &ranges)?;
     }
     #[cfg(feature = "ours")]
-    proved::compare(bytes, &checked, &entries, &sought, random)?;
+    {
+        proved::compare(bytes, &checked, &entries, &sought, random)?;
+        proved::compare_ranges(bytes, &checked, &ranges, random)?;
+    }
     Ok(())
 }
 
@@ -91,7 +101,7 @@ fn readers(
     accepted: &Accepted,
     entries: &[(u64, u64)],
     sought: &[u64],
-    random: &mut Random,
+    ranges: &[Bounds],
 ) -> Result<(), String> {
     let list = model::list(bytes);
     same("walk", ("rkyv", entries), ("model", &pairs(&list)))?;
@@ -104,18 +114,24 @@ fn readers(
         let what = format!("lookup of {key}");
         same(&what, ("rkyv", accepted.get(key)), ("model", found))?;
     }
-    let keys: Vec<u64> = entries.iter().map(|entry| entry.0).collect();
-    for _ in 0..QUESTIONS {
-        let (lower, upper) = trees::bounds(&keys, random);
-        let reference = match model::crosses(lower, upper) {
-            true => ("document 01", Vec::new()),
-            false => ("rkyv", accepted.range(lower, upper)),
-        };
+    for &(lower, upper) in ranges {
         let range = pairs(&model::range(bytes, lower, upper));
         let what = format!("range from {lower:?} to {upper:?}");
-        same(&what, reference, ("model", range))?;
+        same(&what, matching(accepted, lower, upper), ("model", range))?;
     }
     Ok(())
+}
+
+/// The entries of a certified archive that meet both bounds, and whose answer they are.
+fn matching(
+    accepted: &Accepted,
+    lower: Bound<u64>,
+    upper: Bound<u64>,
+) -> (&'static str, Vec<(u64, u64)>) {
+    match model::crosses(lower, upper) {
+        true => ("document 01", Vec::new()),
+        false => ("rkyv", accepted.range(lower, upper)),
+    }
 }
 
 fn pairs(entries: &[Entry]) -> Vec<(u64, u64)> {
@@ -140,7 +156,7 @@ mod proved {
     use compare::trees::Random;
     use compare::{model, ours};
 
-    use super::{count, same};
+    use super::{count, matching, same, Bounds};
 
     /// What a place of a lent list holds before a call.
     const BEFORE: u64 = 0x5555_5555_5555_5555;
@@ -161,17 +177,14 @@ mod proved {
             ("ours", ours::certify(bytes)),
         )?;
 
-        // Two lists of different lengths: the shorter decides, and later places keep their content.
-        let mut keys = vec![BEFORE; room(entries, random)];
-        let mut values = vec![BEFORE; room(entries, random)];
-        let written = entries.len().min(keys.len()).min(values.len());
-        let (mut keys_after, mut values_after) = (keys.clone(), values.clone());
-        for (index, &(key, value)) in entries.iter().take(written).enumerate() {
-            (keys_after[index], values_after[index]) = (key, value);
-        }
-        let after = (count.map(|_| written as u32), keys_after, values_after);
+        let (mut keys, mut values) = lent(entries, random);
+        let (written, after) = written(entries, &keys, &values);
         let answer = ours::walk(bytes, &mut keys, &mut values);
-        same("walk", ("rkyv", after), ("ours", (answer, keys, values)))?;
+        same(
+            "walk",
+            ("rkyv", (count.map(|_| written), after)),
+            ("ours", (answer, (keys, values))),
+        )?;
 
         let mut found = Vec::new();
         for &key in sought {
@@ -194,6 +207,52 @@ mod proved {
             same(&what, ("rkyv", value.unwrap_or(after)), ("ours", after))?;
         }
         Ok(())
+    }
+
+    /// The ranges of any archive: what certify refuses is refused with the same number, and nothing is written.
+    pub fn compare_ranges(
+        bytes: &[u8],
+        checked: &Result<Accepted, u8>,
+        ranges: &[Bounds],
+        random: &mut Random,
+    ) -> Result<(), String> {
+        let certified = model::certify(bytes);
+        for &(lower, upper) in ranges {
+            let (source, entries) = match (checked, certified) {
+                (Ok(accepted), Ok(_)) => matching(accepted, lower, upper),
+                _ => ("model", Vec::new()),
+            };
+            let (mut keys, mut values) = lent(&entries, random);
+            let (written, after) = written(&entries, &keys, &values);
+            let numbers = certified.map(|_| (written, entries.len() as u64));
+            let answer = ours::range(bytes, lower, upper, &mut keys, &mut values);
+            same(
+                &format!("range from {lower:?} to {upper:?}"),
+                (source, (numbers, after)),
+                ("ours", (answer, (keys, values))),
+            )?;
+        }
+        Ok(())
+    }
+
+    /// Two lent lists, of keys and of values, whose lengths differ as a rule.
+    fn lent(entries: &[(u64, u64)], random: &mut Random) -> (Vec<u64>, Vec<u64>) {
+        let mut list = || vec![BEFORE; room(entries, random)];
+        (list(), list())
+    }
+
+    /// The number of entries written to lent lists, and the lists after it: the shorter decides, and later places keep their content.
+    fn written(
+        entries: &[(u64, u64)],
+        keys: &[u64],
+        values: &[u64],
+    ) -> (u32, (Vec<u64>, Vec<u64>)) {
+        let written = entries.len().min(keys.len()).min(values.len());
+        let (mut keys, mut values) = (keys.to_vec(), values.to_vec());
+        for (index, &(key, value)) in entries.iter().take(written).enumerate() {
+            (keys[index], values[index]) = (key, value);
+        }
+        (written as u32, (keys, values))
     }
 
     /// A length for a lent list: too short, right, or longer than the entries need.
