@@ -1,4 +1,4 @@
-//! The programs `compare` and `answers`.
+//! The programs `compare`, `answers` and, with the feature `ours`, `builds`.
 
 use std::process::{Command, Output};
 use std::{env, fs};
@@ -22,6 +22,17 @@ fn generated_archives() {
         let count: u32 = line[name.len()..].trim().parse().unwrap();
         assert!(count >= 50, "{text}");
     }
+}
+
+/// What is built shows no difference: 24 larger and smaller numbers of entries, each behind 20 headers.
+#[cfg(feature = "ours")]
+#[test]
+fn built_archives() {
+    let output = run(env!("CARGO_BIN_EXE_builds"), &["19"]);
+    let text = String::from_utf8(output.stdout).unwrap();
+    assert!(output.status.success(), "{text}");
+    let first = text.lines().next().unwrap();
+    assert_eq!(first.split_whitespace().last(), Some("480"), "{text}");
 }
 
 /// The replay is small, ends as it should, and has every kind of line.

@@ -1,0 +1,242 @@
+//! Compares what the proved code builds with what rkyv builds, byte for byte: every number of entries up to a limit and four larger ones,
+//! each behind headers of every length in `headers`.
+//!
+//! `builds [LIMIT]` takes the numbers from 0 to the limit, 2,000 if none is given. The output holds bytes other than 0 before each call;
+//! those of the header and those past the archive must stay, and check and certify must accept the archive with the number of entries.
+//! Refused calls must leave the output as it was; there document 01 is the reference, since rkyv takes every list. Prints how many archives
+//! and how many refused calls there were. If some differ, it prints the first of them and ends with 1.
+
+use std::env;
+use std::fmt::Debug;
+use std::process::ExitCode;
+
+use compare::ours;
+use compare::rkyv_map;
+use compare::trees::Random;
+use rkyv::ser::allocator::Arena;
+use rkyv::util::AlignedVec;
+
+/// The numbers of entries beyond the limit: where the tree gets its sixth level, and the most that the builder takes.
+const LARGER: [usize; 4] = [7_775, 7_776, 39_999, 40_000];
+/// The longest header, and the most entries.
+const LONGEST_HEADER: usize = 4_096;
+const MOST: usize = 40_000;
+/// The most bytes that an output has past the archive, and more than any output here has in all.
+const PAST: usize = 40;
+const LONGEST: usize = 1 << 20;
+/// Bytes that are more than enough for an archive behind its header: these, and these for each entry.
+const ROOM_FOR_NONE: usize = 200;
+const ROOM_FOR_EACH: usize = 24;
+
+fn main() -> ExitCode {
+    let limit = env::args().nth(1).map_or(2_000, |text| {
+        text.parse().expect("the largest number of entries")
+    });
+
+    let mut run = Run::new();
+    for number in (0..=limit).chain(LARGER) {
+        let (keys, values) = entries(number, &mut run.random);
+        for header in headers() {
+            run.archive(header, &keys, &values);
+        }
+        run.refusals(&keys, &values);
+    }
+    run.too_many();
+
+    let Run {
+        archives, refused, ..
+    } = &run;
+    println!("archives compared {:9}", archives.number);
+    println!("differing         {:9}", archives.differing);
+    println!("refused calls     {:9}", refused.number);
+    println!("differing         {:9}", refused.differing);
+    match run.first {
+        None => ExitCode::SUCCESS,
+        Some(difference) => {
+            println!("{difference}");
+            ExitCode::FAILURE
+        }
+    }
+}
+
+/// The lengths of the headers: each place in 8 bytes, twice over, and the longest.
+fn headers() -> impl Iterator<Item = usize> {
+    (0..=17).chain([LONGEST_HEADER - 1, LONGEST_HEADER])
+}
+
+/// As many ascending keys and values: gaps of any size, and in every other list the largest key.
+fn entries(number: usize, random: &mut Random) -> (Vec<u64>, Vec<u64>) {
+    let widest = u64::MAX / (number as u64 + 1);
+    let mut below = 0;
+    let mut keys: Vec<u64> = (0..number)
+        .map(|_| {
+            let key = below + random.number() % widest;
+            below = key + 1;
+            key
+        })
+        .collect();
+    if number.is_multiple_of(2) {
+        if let Some(last) = keys.last_mut() {
+            *last = u64::MAX;
+        }
+    }
+    let values = (0..number).map(|_| random.number()).collect();
+    (keys, values)
+}
+
+/// How many there were, and in how many the answers differ.
+#[derive(Default)]
+struct Count {
+    number: u64,
+    differing: u64,
+}
+
+struct Run {
+    random: Random,
+    /// What an output holds before a call: bytes other than 0.
+    before: Vec<u8>,
+    /// The output, of which a call is lent the front.
+    output: Vec<u8>,
+    /// rkyv's output and its working memory.
+    rkyv: AlignedVec<8>,
+    arena: Arena,
+    archives: Count,
+    refused: Count,
+    /// The first difference.
+    first: Option<String>,
+}
+
+impl Run {
+    fn new() -> Self {
+        let mut random = Random::new(0);
+        let before = (0..LONGEST).map(|_| 1 + random.below(255) as u8).collect();
+        Self {
+            random,
+            before,
+            output: vec![0; LONGEST],
+            rkyv: AlignedVec::new(),
+            arena: Arena::new(),
+            archives: Count::default(),
+            refused: Count::default(),
+            first: None,
+        }
+    }
+
+    /// The archive of a list behind a header, and the refusal of an output that is one byte too short for it.
+    fn archive(&mut self, header: usize, keys: &[u64], values: &[u64]) {
+        self.rkyv.clear();
+        self.rkyv.extend_from_slice(&self.before[..header]);
+        rkyv_map::build_into(&mut self.rkyv, &mut self.arena, keys, values)
+            .expect("rkyv builds every list");
+        let end = self.rkyv.len();
+        let past = self.random.below(PAST + 1);
+
+        let before = &self.before[..end + past];
+        let output = &mut self.output[..end + past];
+        output.copy_from_slice(before);
+        let answer = ours::build(output, header, keys, values);
+        let count = Ok(keys.len() as u32);
+        let archive = &output[..end];
+        let difference = same("answer", Ok(end as u32), answer)
+            .and_then(|()| same_bytes("archive", &self.rkyv, archive))
+            .and_then(|()| same_bytes("bytes past it", &before[end..], &output[end..]))
+            .and_then(|()| same("check", count, ours::check(archive)))
+            .and_then(|()| same("certify", count, ours::certify(archive)));
+        self.archives.number += 1;
+        if let Err(difference) = difference {
+            self.archives.differing += 1;
+            let what = format!("{} entries behind {header} bytes", keys.len());
+            self.first.get_or_insert(format!("{what}: {difference}"));
+        }
+        self.refusal(14, end - 1, header, keys, values);
+    }
+
+    /// Calls that are refused, with lists like these, which are in order.
+    fn refusals(&mut self, keys: &[u64], values: &[u64]) {
+        let number = keys.len();
+        let header = self.random.below(LONGEST_HEADER + 1);
+        let long = LONGEST_HEADER + 1;
+        let room = LONGEST_HEADER + ROOM_FOR_NONE + ROOM_FOR_EACH * number;
+
+        // 10 comes before all others.
+        let one_more = [values, &[0]].concat();
+        self.refusal(10, room, header, keys, &one_more);
+        self.refusal(10, 0, long, keys, &one_more);
+        if let [fewer @ .., _] = values {
+            self.refusal(10, room, header, keys, fewer);
+        }
+        // 12 comes before 13 and 14: two neighbours that are equal, or two that descend.
+        if number >= 2 {
+            let place = self.random.below(number - 1);
+            for place in [0, place, number - 2] {
+                let mut faulty = keys.to_vec();
+                faulty[place] = keys[place + 1];
+                self.refusal(12, room, header, &faulty, values);
+                self.refusal(12, 0, long, &faulty, values);
+                faulty[place + 1] = keys[place];
+                self.refusal(12, room, header, &faulty, values);
+            }
+        }
+        // 13 comes before 14.
+        for header in [long, long + number, usize::MAX] {
+            self.refusal(13, room, header, keys, values);
+            self.refusal(13, 0, header, keys, values);
+        }
+        // 14, also where the output ends in the header.
+        self.refusal(14, 0, 0, keys, values);
+        self.refusal(14, header, header, keys, values);
+        self.refusal(14, header / 2, header, keys, values);
+    }
+
+    /// Lists that are too long: 11 comes after 10 and before all others.
+    fn too_many(&mut self) {
+        for number in [MOST + 1, MOST + 2, 3 * MOST] {
+            let (mut keys, values) = entries(number, &mut self.random);
+            self.refusal(10, LONGEST, 0, &keys, &values[1..]);
+            self.refusal(11, LONGEST, 0, &keys, &values);
+            self.refusal(11, 0, LONGEST_HEADER + 1, &keys, &values);
+            keys.swap(0, number / 2);
+            self.refusal(11, LONGEST, 0, &keys, &values);
+        }
+    }
+
+    /// A call with an output of this length, which must be refused with this number and leave the output as it was.
+    fn refusal(&mut self, number: u8, length: usize, header: usize, keys: &[u64], values: &[u64]) {
+        let before = &self.before[..length];
+        let output = &mut self.output[..length];
+        output.copy_from_slice(before);
+        let answer = ours::build(output, header, keys, values);
+        let difference =
+            same("answer", Err(number), answer).and_then(|()| same_bytes("output", before, output));
+        self.refused.number += 1;
+        if let Err(difference) = difference {
+            self.refused.differing += 1;
+            let (keys, values) = (keys.len(), values.len());
+            let what = format!(
+                "{keys} keys and {values} values behind {header} bytes, in an output of {length}"
+            );
+            self.first.get_or_insert(format!("{what}: {difference}"));
+        }
+    }
+}
+
+/// A difference, unless the answers are the same.
+fn same<T: Debug + PartialEq>(what: &str, right: T, ours: T) -> Result<(), String> {
+    if right == ours {
+        return Ok(());
+    }
+    Err(format!("{what}: {ours:?} instead of {right:?}"))
+}
+
+/// The first place where bytes of one length differ, if there is one.
+fn same_bytes(what: &str, right: &[u8], ours: &[u8]) -> Result<(), String> {
+    if right == ours {
+        return Ok(());
+    }
+    let place = right
+        .iter()
+        .zip(ours)
+        .position(|(right, ours)| right != ours);
+    let place = place.expect("two of one length");
+    same(&format!("{what}, byte {place}"), right[place], ours[place])
+}
