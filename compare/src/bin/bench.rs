@@ -2,7 +2,8 @@
 //! repetitions.
 //!
 //! A proved reader runs the check first, so it stands beside rkyv's check and rkyv's reader together; the reader alone is in a line of its
-//! own. Where the library exports no call, the line has rkyv's time only.
+//! own. The proved range certifies, and rkyv has no such call: there rkyv's check and range stand beside more work. The proved build
+//! compares the keys with one another, which rkyv leaves to its caller. Where the library exports no call, the line has rkyv's time only.
 
 use std::hint::black_box;
 use std::ops::{Bound, ControlFlow};
@@ -50,7 +51,7 @@ const NOT_THERE: Option<fn(&mut Lent) -> usize> = None;
 
 fn main() {
     println!("entries  call                               ours ns     rkyv ns   ratio");
-    for entries in [76, 40_000] {
+    for entries in [76, 1_000, 40_000] {
         measure(entries);
     }
 }
@@ -127,18 +128,50 @@ fn measure(entries: usize) {
         }),
     );
     row(
+        "certify (rkyv: check) and range",
+        best(
+            RANGE,
+            proved!(|lent: &mut Lent| {
+                let bytes = black_box(archive.bytes());
+                let (lower, upper) = bounds;
+                let (written, matching) =
+                    ours::range(bytes, lower, upper, &mut lent.keys, &mut lent.values).unwrap();
+                assert_eq!(u64::from(written), matching);
+                written as usize
+            }),
+            |lent| range(accepted(&archive).map(), bounds, lent),
+        ),
+    );
+    row(
         &format!("range of {} entries alone", entries.min(RANGE)),
         best(RANGE, NOT_THERE, |lent| range(black_box(map), bounds, lent)),
     );
     let (mut output, mut arena) = (AlignedVec::new(), Arena::new());
     row(
         "build",
-        best(0, NOT_THERE, |_| {
-            output.clear();
-            rkyv_map::build_into(&mut output, &mut arena, black_box(&keys), &values).unwrap();
-            output.len()
-        }),
+        best(
+            0,
+            proved!(building(archive.bytes(), &keys, &values)),
+            |_| {
+                output.clear();
+                rkyv_map::build_into(&mut output, &mut arena, black_box(&keys), &values).unwrap();
+                output.len()
+            },
+        ),
     );
+}
+
+/// The proved build, into an output that is as long as rkyv's archive, with the same bytes.
+#[cfg(feature = "ours")]
+fn building<'a>(
+    archive: &[u8],
+    keys: &'a [u64],
+    values: &'a [u64],
+) -> impl FnMut(&mut Lent) -> usize + use<'a> {
+    let mut output = vec![0; archive.len()];
+    ours::build(&mut output, 0, keys, values).unwrap();
+    assert_eq!(output, archive, "the same bytes");
+    move |_| ours::build(&mut output, 0, black_box(keys), values).unwrap() as usize
 }
 
 /// rkyv's check, as a caller has it in a release build. It and the three readers below are functions of their own, as the proved calls
