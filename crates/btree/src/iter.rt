@@ -63,10 +63,7 @@ fn range_slot(
     let before = done.matching;
     let written = visit_key_value_raw(archive, pos, i, keys, values, at);
     let matching = before + 1;
-    Ranged {
-        written: written,
-        matching: matching,
-    }
+    Ranged { written, matching }
 }
 
 // Counts and writes a leaf's slots whose keys meet both bounds; stops at the first key past the upper one.
@@ -90,11 +87,11 @@ fn range_leaf(
     let n = u32_at(archive, p + Layout::NODE) as usize;
     let mut done = start;
     for i in 0..n {
-        let key = u64_at(archive, p + Layout::KEYS + 8 * i);
-        if !key_satisfies_lower(key, lower) {
+        let k = u64_at(archive, p + Layout::KEYS + 8 * i);
+        if !key_satisfies_lower(k, lower) {
             continue;
         }
-        if key_is_past_upper(key, upper) {
+        if key_is_past_upper(k, upper) {
             return done;
         }
         done = range_slot(archive, pos, i, keys, values, done);
