@@ -1,8 +1,11 @@
 // The calls for programs in C and Rust. A slice passes as a pointer and a length. A call answers a count, or on a refusal 2^32 plus its number, and
 // then leaves what was lent as it was. A count is below 2^32, of keys found where fewer than 2^32 are lent.
 use btree::node::pointed;
+use builder::build::BuildAnswer;
 use fieldmap::LookupAnswer;
+use fieldmap::RangeAnswer;
 use fieldmap::WalkAnswer;
+use format::Bound;
 use format::CheckAnswer;
 use format::Found;
 use format::Layout;
@@ -16,9 +19,10 @@ ghost use Rattle.format.specs.Refusal.{checkOf, number};
 ghost use Rattle.format.specs.Check.{counted, checkArchive};
 ghost use Rattle.format.specs.Certify.{certify};
 ghost use Rattle.format.specs.Lookup.{lookupAt};
-ghost use Rattle.format.specs.Calls.{lookupCall, walkCall, walkKeys, walkValues};
+ghost use Rattle.format.specs.Build.{build, outAfter};
+ghost use Rattle.format.specs.Calls.{lookupCall, walkCall, walkKeys, walkValues, rangeCall, rangeKeys, rangeValues};
 ghost use Rattle.format.specs.Laws.Node.{Node};
-ghost use Rattle.exports.specs.Answers.{coded, codedWalk, codedFound, valueAfter};
+ghost use Rattle.exports.specs.Answers.{coded, codedWalk, codedFound, valueAfter, boundOf, codedRange, matchingAfter};
 ghost use Rattle.exports.specs.Many.{many, store, allMany, manyCall, manyValues};
 
 // A refusal's code.
@@ -142,5 +146,64 @@ pub extern "C" fn fieldmap_lookup_many(archive: &[u8], keys: &[u64], values: &mu
             let record = Position(archive.len() - Layout::RECORD);
             look_up_all(archive, pointed(archive, record), keys, values) as u64
         }
+    }
+}
+
+// A bound by its kind: 0 is included, 1 excluded, any other open.
+fn bound(kind: u8, key: u64) -> Bound
+    ensures { λ r. ⌜ r ≡ boundOf kind key ⌝ }
+{
+    if kind == 0 {
+        return Bound::Included(key);
+    }
+    if kind == 1 {
+        return Bound::Excluded(key);
+    }
+    Bound::Unbounded
+}
+
+// Of a certified archive, writes keys and values of the entries that meet both bounds until the shorter list is full, and stores how many
+// there are. The number written.
+#[no_mangle]
+pub extern "C" fn fieldmap_range(
+    archive: &[u8],
+    lower_kind: u8,
+    lower: u64,
+    upper_kind: u8,
+    upper: u64,
+    keys: &mut [u64],
+    values: &mut [u64],
+    matching: &mut u64,
+) -> u64
+    ensures answer { λ r. ⌜ r ≡ codedRange
+        (rangeCall layout32 standard (now (archive .entry)) (boundOf «lower_kind» lower) (boundOf «upper_kind» upper) (now (keys .entry)) (now (values .entry))) ⌝ }
+    ensures keys { λ r. ⌜ now (keys .exit)
+        ≡ rangeKeys layout32 standard (now (archive .entry)) (boundOf «lower_kind» lower) (boundOf «upper_kind» upper) (now (keys .entry)) (now (values .entry)) ⌝ }
+    ensures values { λ r. ⌜ now (values .exit)
+        ≡ rangeValues layout32 standard (now (archive .entry)) (boundOf «lower_kind» lower) (boundOf «upper_kind» upper) (now (keys .entry)) (now (values .entry)) ⌝ }
+    ensures matching { λ r. ⌜ now (matching .exit) ≡ matchingAfter
+        (rangeCall layout32 standard (now (archive .entry)) (boundOf «lower_kind» lower) (boundOf «upper_kind» upper) (now (keys .entry)) (now (values .entry)))
+        (now (matching .entry)) ⌝ }
+{
+    let from = bound(lower_kind, lower);
+    let to = bound(upper_kind, upper);
+    match fieldmap::range(archive, from, to, keys, values) {
+        RangeAnswer::Refused(why) => refused(why),
+        RangeAnswer::Matched(written, all) => {
+            *matching = all as u64;
+            written as u64
+        }
+    }
+}
+
+// Writes the given entries as an archive behind the first `header` bytes of the output, which stay. The archive's end.
+#[no_mangle]
+pub extern "C" fn fieldmap_build(out: &mut [u8], header: usize, keys: &[u64], values: &[u64]) -> u64
+    ensures answer { λ r. ⌜ r ≡ coded (build layout32 (now (keys .entry)) (now (values .entry)) header (length (now (out .entry)))) ⌝ }
+    ensures bytes { λ r. ⌜ now (out .exit) ≡ outAfter layout32 (now (keys .entry)) (now (values .entry)) header (now (out .entry)) ⌝ }
+{
+    match fieldmap::build(out, header, keys, values) {
+        BuildAnswer::Built(end) => end as u64,
+        BuildAnswer::Refused(why) => refused(why),
     }
 }
