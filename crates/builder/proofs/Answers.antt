@@ -1,28 +1,26 @@
--- What an answer tells.
-use mathlib.Core.Path.{_≡_, refl, sym, ap, _∙_}
+-- The cases of each step of Machine, by what an answer tells. Assumes nothing.
+use mathlib.Core.Path.{_≡_, refl, sym, ap}
 use mathlib.Core.Bool.{Bool, true, false}
-use mathlib.Core.List.{List, [], _∷_, _++_}
-use Prim.Native.Nat.{ℕ, zero, suc, _+_, _-_, _*_, _≤_, _<_}
+use mathlib.Core.List.{List}
+use Prim.Native.Nat.{ℕ, zero, suc, _+_, _-_, _≤_, _<_}
 use native.Mathlib.Omega.{arith}
 use native.Mathlib.Nat.{not-suc-le-zero}
 use borrow.Author.Tests.{ltb-true, leb-true, lt-ltb, le-ltb}
 use lib.ListN.{length, getD}
-use lib.Dec.{ltb, leb, eqb}
+use lib.Dec.{ltb, leb}
 use Rattle.builder.specs.declared.inline_vec.Pair.{Pair}
-use Rattle.builder.specs.declared.map.Next.{Next}
 use Rattle.builder.specs.declared.map.Next.the-variants.{Got, End}
 use Rattle.builder.specs.declared.map.Fit.{Fit}
 use Rattle.builder.specs.declared.map.Fit.the-variants.{End as Ends, NoRoom}
 use Rattle.format.specs.declared.Child.{Child}
-use Rattle.format.specs.declared.Child.the-variants.{Absent, At}
+use Rattle.format.specs.declared.Child.the-variants.{Absent}
 use Rattle.builder.specs.declared.inline_vec.OpenInner.{OpenInner}
 use Rattle.builder.specs.declared.ser_vec.OpenInners.{OpenInners}
 use Rattle.builder.specs.declared.map.Filled.{Filled}
-use Rattle.builder.specs.Machine.{Building}
+use Rattle.builder.specs.Machine.{Building, entryAt, fitOf, pickNext, pickFit, shutLeaf, shutLeafAt, shutInner, shutInnerAt, fillS, transitS, withFilled, withInners, climbS, growAt}
 use Rattle.builder.specs.Nodes.{pushInner, lastInner, popInners}
-use Rattle.builder.specs.Machine.{entryAt, fitOf, pickNext, pickFit, shutLeaf, shutLeafAt, shutInner, shutInnerAt, fillS, St, transitS, withFilled, withInners, climbS, growAt}
 
--- an entry stands below the length
+-- An entry stands below the length.
 pub got-below : (ks vs : List ℕ) (i : ℕ) (e : Pair) → entryAt ks vs i ≡ Got e → i < length ks
 got-below ks vs i e h = go (ltb i (length ks)) refl h
   where
@@ -31,7 +29,7 @@ got-below ks vs i e h = go (ltb i (length ks)) refl h
     go true p h = ltb-true i (length ks) p
     go false p h = let z : _≡_ {A = ℕ} 0 1 = cc in omega arith
 
--- a node that fits ends within, and where it should
+-- A node that fits ends within, and where it should.
 pub ends-within : (len at size e : ℕ) → fitOf len at size ≡ Ends e → (e ≡ at + size) × (at + size ≤ len)
 ends-within len at size e h = go (leb (at + size) len) refl h
   where
@@ -39,7 +37,7 @@ ends-within len at size e h = go (leb (at + size) len) refl h
     go true p h = (cc, leb-true (at + size) len p)
     go false p h = let z : _≡_ {A = ℕ} 0 1 = cc in omega arith
 
--- a step by its answer
+-- A step by its answer.
 pub shut-leaf-by : (s : Building) (out : List ℕ) (f : Fit) → fitOf (length out) (s .at) 96 ≡ f → shutLeafAt f s out ≡ shutLeaf s out
 unfolding shutLeaf
 shut-leaf-by s out f h = ap (λ (g : Fit). shutLeafAt g s out) (sym h)
@@ -63,7 +61,7 @@ pub fill-full : (ks vs : List ℕ) (n : OpenInner) (c : Child) (i : ℕ) → fil
 unfolding fillS
 fill-full ks vs n c i = refl
 
--- closing a node leaves the open ones, the next entry and the output's length
+-- Closing a node leaves the open ones, the next entry and the output's length.
 pub shut-inner-inners : (n : OpenInner) (s : Building) (out : List ℕ) → shutInner n s out .b .inners ≡ s .inners
 unfolding shutInner
 shut-inner-inners n s out = go (fitOf (length out) (s .at) 112)
@@ -116,17 +114,8 @@ climb-shut ks vs p (suc n) s out z h =
     let q : suc n - 1 ≡ n = omega arith in
     rw q (climb-shut′ ks vs p n s out h)
 
--- the same, by what the calls answered
+-- The same, by what the calls answered.
 pub transit-by : (ks vs : List ℕ) (s : Building) (out : List ℕ) (n : OpenInner) (i : OpenInners) (f : Filled) → (s .inners .len ≡ 0 → ⊥) →
     n ≡ lastInner (s .inners) → i ≡ popInners (s .inners) → f ≡ fillS (5 - n .len) ks vs n (s .child) (s .next) →
     shutInner (f .node) (withFilled s i f) out ≡ transitS ks vs s out
 transit-by ks vs s out n i f h en ei ef = rw (ef, en, ei) (transit-some ks vs s out h)
-
-pub climb-by : (ks vs : List ℕ) (p : ℕ) (s : Building) (out : List ℕ) (n : OpenInner) (i : OpenInners) (b′ : Building) (out′ : List ℕ) → 0 < s .inners .len → 5 ≤ n .len →
-    n ≡ lastInner (s .inners) → i ≡ popInners (s .inners) → b′ ≡ shutInner n (withInners s i) out .b → out′ ≡ shutInner n (withInners s i) out .out →
-    (b′ .inners .len ≡ s .inners .len - 1) × (climbS (b′ .inners .len) ks vs (p + 1) b′ out′ ≡ climbS (s .inners .len) ks vs p s out)
-climb-by ks vs p s out n i b′ out′ z h en ei eb eo =
-    let el : b′ .inners .len ≡ s .inners .len - 1 =
-    ap (λ (x : Building). x .inners .len) eb ∙ ap (λ (x : OpenInners). x .len) (shut-inner-inners n (withInners s i) out ∙ ei) in
-    let h′ : 5 ≤ lastInner (s .inners) .len = rw en at h in
-    (el, ap (λ (k : ℕ). climbS k ks vs (p + 1) b′ out′) el ∙ rw (eb, eo, en, ei) (climb-shut ks vs p (s .inners .len) s out z h′))

@@ -1,16 +1,14 @@
--- What a turn keeps.
-use mathlib.Core.Path.{_≡_, refl, sym, ap, _∙_}
-use mathlib.Core.Bool.{Bool, true, false}
-use mathlib.Core.List.{List, [], _∷_, _++_}
-use Prim.Native.Nat.{ℕ, zero, suc, _+_, _-_, _*_, _≤_, _<_}
+-- What the steps of Machine keep. Assumes nothing.
+use mathlib.Core.Path.{_≡_, refl, ap, _∙_}
+use mathlib.Core.List.{List}
+use Prim.Native.Nat.{ℕ, zero, suc, _+_, _-_, _≤_, _<_}
 use native.Mathlib.Omega.{arith}
-use native.Mathlib.Nat.{not-suc-le-zero}
 use native.Mathlib.Decide.{decLt, ℕ-discrete}
-use borrow.Author.Tests.{ltb-true, leb-true, lt-ltb, le-ltb, eq-eqb, ne-eqb}
-use lib.ListN.{length, getD}
+use borrow.Author.Tests.{lt-ltb, le-ltb, eq-eqb, ne-eqb}
+use lib.ListN.{length}
 use Rattle.builder.specs.declared.inline_vec.Pair.{Pair}
 use Rattle.format.specs.declared.Child.{Child}
-use Rattle.format.specs.declared.Child.the-variants.{Absent, At}
+use Rattle.format.specs.declared.Child.the-variants.{Absent}
 use Rattle.builder.specs.declared.map.Next.{Next}
 use Rattle.builder.specs.declared.map.Next.the-variants.{Got, End}
 use Rattle.builder.specs.declared.map.Fit.{Fit}
@@ -18,12 +16,11 @@ use Rattle.builder.specs.declared.map.Fit.the-variants.{End as Ends, NoR
 use Rattle.builder.specs.declared.inline_vec.OpenLeaf.{OpenLeaf}
 use Rattle.builder.specs.declared.inline_vec.OpenInner.{OpenInner}
 use Rattle.builder.specs.declared.ser_vec.OpenInners.{OpenInners}
-use Rattle.builder.specs.Machine.{Building}
+use Rattle.builder.specs.Machine.{Building, entryAt, fitOf, shutLeaf, shutLeafAt, shutInner, shutInnerAt, fillS, transitS, withFilled, withInners, climbS, growAt, reopen, turnS, takeB, runS}
 use Rattle.builder.specs.Nodes.{pushInner, pushInners, lastInner, popInners}
-use Rattle.builder.specs.Machine.{entryAt, fitOf, shutLeaf, shutLeafAt, shutInner, shutInnerAt, fillS, St, transitS, withFilled, withInners, climbS, growAt, reopen, turnS, takeB, runS}
 use Rattle.builder.proofs.Answers.{fill-got, fill-end, transit-none, transit-some, climb-none, climb-end, climb-got, climb-shut′, got-below}
 
--- the leaf and the count stay, at most five inner nodes are open, and no entry comes back
+-- The leaf and the count stay, at most five inner nodes are open, and no entry comes back.
 pub record Kept (s t : Building) : Type 0 where
   pub leaf : t .leaf ≡ s .leaf
   pub few : t .inners .len ≤ 5
@@ -52,7 +49,7 @@ fill-upto (suc k) ks vs n c i m = go (entryAt ks vs i) refl (λ n c i. fill-upto
     go End h ih = rw (fill-end (suc k) ks vs n c i h) m
     go (Got e) h ih = let z : i < length ks = got-below ks vs i e h in rw (← fill-got k ks vs n c i e h) (ih (pushInner n e c) Absent (i + 1) (omega arith))
 
--- closing keeps all but the child and the position
+-- Closing keeps all but the child and the position.
 pub record Same (s t : Building) : Type 0 where
   pub inners : t .inners ≡ s .inners
   pub next : t .next ≡ s .next
@@ -157,14 +154,14 @@ pub turn-full : (ks vs : List ℕ) (ll : ℕ) (e : Pair) (s : Building) (out : L
 unfolding turnS
 turn-full ks vs ll e s out h l = rw (ne-eqb (s .count + 1) ll h, le-ltb (s .leaf .len + 1) 5 l, turnS)
 
--- what a turn leaves
+-- What a turn leaves.
 pub record Turned (s t : Building) : Type 0 where
   pub leaf : t .leaf .len < 5
   pub few : t .inners .len ≤ 5
   pub next : s .next < t .next
   pub count : t .count ≡ s .count + 1
 
--- a turn that ends in a climb from v, which a close of the leaf of s led to
+-- A turn that ends in a climb from v, which a close of the leaf of s led to.
 climbed : (ks vs : List ℕ) (s v : Building) (out : List ℕ) → v .leaf .len ≡ 0 → v .inners .len ≤ 5 → s .next + 1 ≤ v .next → v .count ≡ s .count + 1 →
     Turned s (climbS (v .inners .len) ks vs 0 v out .b)
 climbed ks vs s v out l f n k =

@@ -1,7 +1,7 @@
 -- Runs of bytes that calls write one after the other, and the bytes of a node. Assumes nothing.
-use mathlib.Core.Path.{_≡_, refl, sym, ap, ap₂, _∙_}
-use mathlib.Core.List.{List, [], _∷_, _++_, map, append-assoc}
-use Prim.Native.Nat.{ℕ, zero, suc, _+_, _-_, _*_, _<_}
+use mathlib.Core.Path.{_≡_, refl, sym, ap, _∙_}
+use mathlib.Core.List.{List, [], _∷_, _++_}
+use Prim.Native.Nat.{ℕ, zero, suc, _+_, _-_, _<_}
 use native.Mathlib.Omega.{arith}
 use native.Mathlib.Nat.{suc-ne-zero, suc-inj}
 use lib.ListN.{length, getD, set, replicate}
@@ -13,7 +13,7 @@ use Rattle.format.specs.Laws.Bytes.{put-append}
 use Rattle.builder.specs.declared.inline_vec.Pair.{Pair}
 use Rattle.builder.specs.declared.inline_vec.Slot.{Slot}
 use Rattle.builder.specs.declared.inline_vec.OpenInner.{OpenInner}
-use Rattle.builder.specs.Nodes.{flat, leafBytes, lesserBytes, lessersBytes, innerBytes, noPair}
+use Rattle.builder.specs.Nodes.{flat, leafBytes, lesserBytes, innerBytes, noPair}
 
 -- A list of five, written out.
 pub five : {A : Type 0} (l : List A) (d : A) → length l ≡ 5 → getD l 0 d ∷ getD l 1 d ∷ getD l 2 d ∷ getD l 3 d ∷ getD l 4 d ∷ [] ≡ l

@@ -1,8 +1,8 @@
--- Some turns at once.
+-- The streaming loop goes a leaf at a time: some turns of Machine at once. Assumes nothing.
 use mathlib.Core.Path.{_≡_, refl, sym, ap, ap₂, _∙_, subst, subst₂}
 use mathlib.Core.Logic.{_⊎_, inl, inr}
-use mathlib.Core.List.{List, [], _∷_}
-use Prim.Native.Nat.{ℕ, zero, suc, _+_, _-_, _*_, _≤_, _<_}
+use mathlib.Core.List.{List, []}
+use Prim.Native.Nat.{ℕ, zero, suc, _+_, _-_, _≤_, _<_}
 use native.Mathlib.Omega.{arith}
 use borrow.Author.Tests.{lt-ltb, le-ltb, le-leb}
 use lib.ListN.{length, getD, set, length-set}
@@ -10,25 +10,25 @@ use lib.Seq.{sets, set-getD, set-set, getD-set-same}
 use Rattle.builder.specs.declared.inline_vec.Pair.{Pair}
 use Rattle.format.specs.declared.Child.{Child}
 use Rattle.format.specs.declared.Child.the-variants.{Absent, At}
-use Rattle.builder.specs.declared.map.Next.{Next}
 use Rattle.builder.specs.declared.map.Next.the-variants.{Got, End}
 use Rattle.builder.specs.declared.map.Fit.{Fit}
 use Rattle.builder.specs.declared.map.Fit.the-variants.{End as Ends, NoRoom}
 use Rattle.builder.specs.declared.inline_vec.OpenLeaf.{OpenLeaf}
 use Rattle.builder.specs.declared.inline_vec.OpenInner.{OpenInner}
 use Rattle.builder.specs.declared.ser_vec.OpenInners.{OpenInners}
-use Rattle.builder.specs.Machine.{Building}
-use Rattle.builder.specs.Nodes.{newLeaf, newInner, newInners, pushInners, pushLeaf, pushInner, lastInner, popInners, leafBytes, innerBytes}
-use Rattle.builder.specs.Machine.{St, entryAt, fitOf, takeB, shutLeaf, shutLeafAt, shutInner, shutInnerAt, climbS, transitS, turnS, runS, growAt, withInners, withFilled, fillS, reopen}
+use Rattle.builder.specs.Machine.{Building, St, entryAt, fitOf, takeB, shutLeaf, shutLeafAt, shutInner, shutInnerAt, climbS, transitS, turnS, runS, growAt, fillS, reopen}
+use Rattle.builder.specs.Nodes.{newLeaf, newInner, newInners, pushInners, pushLeaf, pushInner, leafBytes, innerBytes}
 use Rattle.builder.specs.declared.map.Filled.{Filled}
 use Rattle.builder.specs.declared.map.Shut.{Shut}
 use Rattle.builder.specs.declared.map.Low.{Low}
 use native.Mathlib.Numerals.{add-one}
-use Rattle.builder.specs.Leaves.{entryOf, takes, stateOf, shutOf, outOf, Goes, Told, Strides, StridesAt, Rises, Crosses, CrossesAt, Roomy, Sized, restOf, st}
+use Rattle.builder.specs.Leaves.{entryOf, takes, stateOf, shutOf, outOf, Goes, Told, Strides, StridesAt, Rises, CrossesAt, Roomy, Sized, Turns, restOf, leftOf, st}
 use Rattle.builder.specs.declared.map.Crossed.{Crossed}
+use Rattle.builder.specs.declared.map.Place.{Place}
+use Rattle.builder.specs.declared.map.Turn.the-variants.{Up, Short}
 use native.Mathlib.Nat.{not-suc-le-zero}
 use native.Mathlib.Decide.{ℕ-discrete}
-use Rattle.builder.proofs.Answers.{got-below, shut-leaf-by, shut-inner-by, climb-got, climb-shut, climb-none, climb-end, transit-by}
+use Rattle.builder.proofs.Answers.{got-below, climb-got, climb-shut, climb-none, climb-end, transit-by}
 use Rattle.builder.proofs.Kept.{Turned, turn-kept, turn-more, turn-full, turn-last, run-got, run-end}
 
 pub goes-refl : (ks vs : List ℕ) (ll : ℕ) (s : Building) (out : List ℕ) → Goes ks vs ll s out s out
@@ -45,7 +45,7 @@ goes-then ks vs ll s t u o p q g h =
 pub goes-to : (ks vs : List ℕ) (ll : ℕ) (s : Building) (o : List ℕ) (x y : St) → x ≡ y → Goes ks vs ll s o (x .b) (x .out) → Goes ks vs ll s o (y .b) (y .out)
 goes-to ks vs ll s o x y e g = subst (λ (z : St). Goes ks vs ll s o (z .b) (z .out)) e g
 
--- an entry stands below the lengths
+-- An entry stands below the lengths.
 pub entry-here : (ks vs : List ℕ) (i : ℕ) → i < length ks → length ks ≡ length vs → entryAt ks vs i ≡ Got (entryOf ks vs i)
 entry-here ks vs i h e = rw (lt-ltb i (length ks) h, lt-ltb i (length vs) (omega arith))
 
@@ -75,7 +75,7 @@ abbrev pub tookOf : List ℕ → List ℕ → ℕ → List OpenInner → ℕ →
 tookOf ks vs k ns o child count next at =
     record { leaf = takes k ks vs next; inners = record { nodes = ns; len = o }; child = child; count = count + k; next = next + k; at = at }
 
--- an entry more
+-- An entry more.
 took-more : (ks vs : List ℕ) (k : ℕ) (ns : List OpenInner) (o : ℕ) (child : Child) (count next at : ℕ) →
     takeB (tookOf ks vs k ns o child count next at) (entryOf ks vs (next + k)) ≡ tookOf ks vs (suc k) ns o child count next at
 took-more ks vs k ns o child count next at =
@@ -87,7 +87,7 @@ took-more ks vs k ns o child count next at =
     the-sum : (x : ℕ) → x + k + 1 ≡ x + suc k
     the-sum x = omega arith
 
--- entries that close no leaf
+-- Entries that close no leaf.
 pub took-goes : (ks vs : List ℕ) (ll k : ℕ) (ns : List OpenInner) (o : ℕ) (child : Child) (count next at : ℕ) (out : List ℕ) → o ≤ 5 → length ks ≡ length vs →
     k < 5 → next + k ≤ length ks → ((count + k < ll) ⊎ (ll ≤ count)) →
     Goes ks vs ll (stateOf ns o child count next at) out (tookOf ks vs k ns o child count next at) out
@@ -119,7 +119,7 @@ took-goes ks vs ll (suc k) ns o child count next at out few same l m w =
     other (inl z) e = omega arith
     other (inr z) e = omega arith
 
--- a leaf of k + 1 entries that is full, and not the last level's last
+-- A leaf of k + 1 entries that is full, and not the last level's last.
 pub full-goes : (ks vs : List ℕ) (ll k : ℕ) (ns : List OpenInner) (o : ℕ) (child : Child) (count next at : ℕ) (out : List ℕ) → o ≤ 5 → length ks ≡ length vs →
     k ≡ 4 → next + suc k ≤ length ks → ((count + suc k < ll) ⊎ (ll ≤ count)) →
     let t = shutLeaf (tookOf ks vs (suc k) ns o child count next at) out in
@@ -148,7 +148,7 @@ full-goes ks vs ll k ns o child count next at out few same l m w =
     other (inl z) e = omega arith
     other (inr z) e = omega arith
 
--- the last level's last leaf, of k + 1 entries
+-- The last level's last leaf, of k + 1 entries.
 pub last-goes : (ks vs : List ℕ) (ll k : ℕ) (ns : List OpenInner) (o : ℕ) (child : Child) (count next at : ℕ) (out : List ℕ) → o ≤ 5 → length ks ≡ length vs →
     k < 5 → next + suc k ≤ length ks → count + suc k ≡ ll →
     let t = shutLeaf (tookOf ks vs (suc k) ns o child count next at) out in
@@ -205,7 +205,7 @@ shut-inner-state n ns o child count next at out = go (fitOf (length out) at 112)
 pub fit-ends : (len at size : ℕ) → at + size ≤ len → fitOf len at size ≡ Ends (at + size)
 fit-ends len at size h = rw (le-leb (at + size) len h)
 
--- a leaf of five and an entry for the lowest open inner node
+-- A leaf of five and an entry for the lowest open inner node.
 pub stride-step : (ks vs : List ℕ) (ll : ℕ) (ns : List OpenInner) (o : ℕ) (node : OpenInner) (child : Child) (count next at : ℕ) (out : List ℕ) →
     0 < o → o ≤ 5 → length ns ≡ 5 → length ks ≡ length vs → getD ns (o - 1) (record { slots = []; len = 0 }) ≡ node → node .len < 5 →
     at + 96 ≤ length out → next + 6 ≤ length ks → ((count + 5 < ll) ⊎ (ll ≤ count)) →
@@ -269,28 +269,28 @@ rise-by ks vs p ns o c count next at out n r out′ z en full er eo =
 pub strides-at-none : (ks vs : List ℕ) (ll o : ℕ) (s : Low) (out : List ℕ) → StridesAt ks vs ll o s out s out
 strides-at-none ks vs ll o s out ns five en =
     let e : ns ≡ set ns (o - 1) (s .node) = sym (set-getD ns (o - 1) (record { slots = []; len = 0 })) ∙ ap (λ (x : OpenInner). set ns (o - 1) x) en in
-    subst (λ (x : List OpenInner). Goes ks vs ll (stateOf ns o (s .child) (s .count) (s .next) (s .at)) out (stateOf x o (s .child) (s .count) (s .next) (s .at)) out) e
-    (goes-refl ks vs ll (stateOf ns o (s .child) (s .count) (s .next) (s .at)) out)
+    subst (λ (x : List OpenInner). Goes ks vs ll (stateOf ns o (s .here .child) (s .here .count) (s .here .next) (s .here .at)) out (stateOf x o (s .here .child) (s .here .count) (s .here .next) (s .here .at)) out) e
+    (goes-refl ks vs ll (stateOf ns o (s .here .child) (s .here .count) (s .here .next) (s .here .at)) out)
 
 pub strides-none : (ks vs : List ℕ) (ll : ℕ) (s : Low) (out : List ℕ) → Strides ks vs ll s out s out
 strides-none ks vs ll s out o ns p few five en =
     let e : ns ≡ set ns (o - 1) (s .node) = sym (set-getD ns (o - 1) (record { slots = []; len = 0 })) ∙ ap (λ (x : OpenInner). set ns (o - 1) x) en in
-    subst (λ (x : List OpenInner). Goes ks vs ll (stateOf ns o (s .child) (s .count) (s .next) (s .at)) out (stateOf x o (s .child) (s .count) (s .next) (s .at)) out) e
-    (goes-refl ks vs ll (stateOf ns o (s .child) (s .count) (s .next) (s .at)) out)
+    subst (λ (x : List OpenInner). Goes ks vs ll (stateOf ns o (s .here .child) (s .here .count) (s .here .next) (s .here .at)) out (stateOf x o (s .here .child) (s .here .count) (s .here .next) (s .here .at)) out) e
+    (goes-refl ks vs ll (stateOf ns o (s .here .child) (s .here .count) (s .here .next) (s .here .at)) out)
 
 pub strides-more : (ks vs : List ℕ) (ll : ℕ) (s : Low) (out₀ : List ℕ) (r : Low) (out : List ℕ) → Strides ks vs ll s out₀ r out → length ks ≡ length vs → r .node .len < 5 →
-    (end : ℕ) → Told (Ends end) (length out) (r .at) (r .count) (r .next) ll (length ks) →
-    (l : OpenLeaf) (out′ : List ℕ) (node : OpenInner) → l ≡ takes 5 ks vs (r .next) → out′ ≡ sets out (r .at) (leafBytes (l .entries) (l .len)) →
-    node ≡ pushInner (r .node) (entryOf ks vs (r .next + 5)) (At (record { 0 = r .at })) →
-    Strides ks vs ll s out₀ (record { node = node; child = Absent; count = r .count + 5; next = r .next + 6; at = end }) out′
+    (end : ℕ) → Told (Ends end) (length out) (r .here .at) (r .here .count) (r .here .next) ll (length ks) →
+    (l : OpenLeaf) (out′ : List ℕ) (node : OpenInner) → l ≡ takes 5 ks vs (r .here .next) → out′ ≡ sets out (r .here .at) (leafBytes (l .entries) (l .len)) →
+    node ≡ pushInner (r .node) (entryOf ks vs (r .here .next + 5)) (At (record { 0 = r .here .at })) →
+    Strides ks vs ll s out₀ (record { node = node; here = record { child = Absent; count = r .here .count + 5; next = r .here .next + 6; at = end } }) out′
 strides-more ks vs ll s out₀ r out st same room end told l out′ node el eo en o ns p few five es =
     let i = o - 1 in
     let ns₁ = set ns i (r .node) in
     let g = st o ns p few five es in
     let q : i < length ns = omega (arith, five) in
-    let h = stride-step ks vs ll ns₁ o (r .node) (r .child) (r .count) (r .next) (r .at) out p few (length-set ns i (r .node) ∙ five) same (getD-set-same ns i (r .node) _ q) room (told .0 .1) (told .1 .0) (told .1 .1) l out′ el eo in
-    let f : set ns₁ i (pushInner (r .node) (entryOf ks vs (r .next + 5)) (At (record { 0 = r .at }))) ≡ set ns i node = set-set ns i (r .node) _ ∙ ap (λ (x : OpenInner). set ns i x) (sym en) in
-    let h′ = subst₂ (λ (x : List OpenInner) (y : ℕ). Goes ks vs ll (stateOf ns₁ o (r .child) (r .count) (r .next) (r .at)) out (stateOf x o Absent (r .count + 5) (r .next + 6) y) out′) f (sym (told .0 .0)) h in
+    let h = stride-step ks vs ll ns₁ o (r .node) (r .here .child) (r .here .count) (r .here .next) (r .here .at) out p few (length-set ns i (r .node) ∙ five) same (getD-set-same ns i (r .node) _ q) room (told .0 .1) (told .1 .0) (told .1 .1) l out′ el eo in
+    let f : set ns₁ i (pushInner (r .node) (entryOf ks vs (r .here .next + 5)) (At (record { 0 = r .here .at }))) ≡ set ns i node = set-set ns i (r .node) _ ∙ ap (λ (x : OpenInner). set ns i x) (sym en) in
+    let h′ = subst₂ (λ (x : List OpenInner) (y : ℕ). Goes ks vs ll (stateOf ns₁ o (r .here .child) (r .here .count) (r .here .next) (r .here .at)) out (stateOf x o Absent (r .here .count + 5) (r .here .next + 6) y) out′) f (sym (told .0 .0)) h in
     goes-then ks vs ll _ _ _ out₀ out out′ g h′
 
 -- ---- a turn of the loop over leaves
@@ -302,7 +302,7 @@ reopen-step (suc b) s h = let q : suc b - 1 ≡ b = omega arith in rw q
 pub entry-none : (ks vs : List ℕ) (i : ℕ) → length ks ≤ i → entryAt ks vs i ≡ End
 entry-none ks vs i h = rw (le-ltb i (length ks) h)
 
--- between two leaves
+-- Between two leaves.
 pub record Going (ks vs : List ℕ) (ll : ℕ) (s₀ : Building) (out₀ : List ℕ) (inners : OpenInners) (child : Child) (count next at below : ℕ) (out : List ℕ) : Type 0 where
   pub five : length (inners .nodes) ≡ 5
   pub few : inners .len + below ≤ 5
@@ -324,11 +324,11 @@ going-open ks vs ll s₀ out₀ inners child count next at below out fresh g h e
       goes = rw ef (subst (λ (x : OpenInners). Goes ks vs ll s₀ out₀ (record { leaf = newLeaf; inners = x; child = child; count = count; next = next; at = at }) out) (reopen-step below inners h) (g .goes));
     }
 
--- with nothing to open, and after a stride
+-- With nothing to open, and after a stride.
 pub going-strode : (ks vs : List ℕ) (ll : ℕ) (s₀ : Building) (out₀ : List ℕ) (inners : OpenInners) (child : Child) (count next at below : ℕ) (out : List ℕ) →
     Going ks vs ll s₀ out₀ inners child count next at below out → below ≤ 0 → (i : ℕ) → i ≡ inners .len - 1 → (node : OpenInner) → node ≡ getD (inners .nodes) i (record { slots = []; len = 0 }) →
-    (s : Low) (out′ : List ℕ) → StridesAt ks vs ll (inners .len) (record { node = node; child = child; count = count; next = next; at = at }) out s out′ →
-    Goes ks vs ll s₀ out₀ (stateOf (set (inners .nodes) i (s .node)) (inners .len) (s .child) (s .count) (s .next) (s .at)) out′
+    (s : Low) (out′ : List ℕ) → StridesAt ks vs ll (inners .len) (record { node = node; here = record { child = child; count = count; next = next; at = at } }) out s out′ →
+    Goes ks vs ll s₀ out₀ (stateOf (set (inners .nodes) i (s .node)) (inners .len) (s .here .child) (s .here .count) (s .here .next) (s .here .at)) out′
 going-strode ks vs ll s₀ out₀ inners child count next at below out g h i ei node en s out′ st =
     let z : below ≡ 0 = omega arith in
     let a = subst (λ (b : ℕ). Goes ks vs ll s₀ out₀ (record { leaf = newLeaf; inners = reopen b inners; child = child; count = count; next = next; at = at }) out) z (g .goes) in
@@ -336,17 +336,17 @@ going-strode ks vs ll s₀ out₀ inners child count next at below out g h i ei 
     let b = st (inners .nodes) (g .five) en′ in
     rw ei (goes-then ks vs ll s₀ (stateOf (inners .nodes) (inners .len) child count next at) _ out₀ out out′ a b)
 
--- the result, once no entry is left
+-- The result, once no entry is left.
 pub ended : (ks vs : List ℕ) (ll : ℕ) (s₀ : Building) (out₀ : List ℕ) (t : Building) (out : List ℕ) → Goes ks vs ll s₀ out₀ t out → entryAt ks vs (t .next) ≡ End →
-    (restOf t ≡ restOf (runS (length ks) ks vs ll s₀ out₀ .b)) × (out ≡ runS (length ks) ks vs ll s₀ out₀ .out)
+    (leftOf t ≡ leftOf (runS (length ks) ks vs ll s₀ out₀ .b)) × (out ≡ runS (length ks) ks vs ll s₀ out₀ .out)
 ended ks vs ll s₀ out₀ t out g h =
     let e : runS (length ks) ks vs ll s₀ out₀ ≡ record { b = t; out = out } = g .same (length ks) (omega arith) ∙ run-end (g .fuel (length ks)) ks vs ll t out h in
-    (ap (λ (x : St). restOf (x .b)) (sym e), ap (λ (x : St). x .out) (sym e))
+    (ap (λ (x : St). leftOf (x .b)) (sym e), ap (λ (x : St). x .out) (sym e))
 
--- fewer entries are left than a leaf takes
+-- Fewer entries are left than a leaf takes.
 pub ended-short : (ks vs : List ℕ) (ll : ℕ) (s₀ : Building) (out₀ : List ℕ) (ns : List OpenInner) (o : ℕ) (child : Child) (count next at : ℕ) (out : List ℕ) →
     Goes ks vs ll s₀ out₀ (stateOf ns o child count next at) out → o ≤ 5 → length ks ≡ length vs → next ≤ length ks → (k : ℕ) → Sized k count ll → length ks - next < k →
-    (record { child = child; at = at } ≡ restOf (runS (length ks) ks vs ll s₀ out₀ .b)) × (out ≡ runS (length ks) ks vs ll s₀ out₀ .out)
+    (record { child = child; at = at } ≡ leftOf (runS (length ks) ks vs ll s₀ out₀ .b)) × (out ≡ runS (length ks) ks vs ll s₀ out₀ .out)
 ended-short ks vs ll s₀ out₀ ns o child count next at out g few same upto k z h =
     let j = length ks - next in
     let t = tookOf ks vs j ns o child count next at in
@@ -381,7 +381,7 @@ main-goes ks vs ll ns o child count next at out few same (suc j) z m l el t o₂
         shut-took ks vs (suc j) ns o child count next at out
         ∙ ap₂ (λ (y : Shut) (p : List ℕ). mk y p) (sym et) (sym (eo ∙ ap (λ (q : OpenLeaf). outOf (fitOf (length out) at 96) out at (leafBytes (q .entries) (q .len))) el))
 
-    -- from the crossing on
+    -- From the crossing on.
     cs : St
     cs = st (stateOf ns (x .rank) (x .child) (count + suc j) (x .next) (x .at)) o₃
 
@@ -411,7 +411,33 @@ main-goes ks vs ll ns o child count next at out few same (suc j) z m l el t o₂
         let g₁ = subst (λ (u : St). Up (climbS (u .b .inners .len) ks vs 0 (u .b) (u .out))) (shut ∙ cr .1 q) g in
         up g₁
 
--- all is closed
+-- By what the calls of `close_nodes` answered.
+pub turns-up : (ks vs : List ℕ) (ll : ℕ) (ns : List OpenInner) (o : ℕ) (p : Place) (out : List ℕ) → o ≤ 5 → length ks ≡ length vs → p .count ≤ p .next
+    → (k : ℕ) → Sized k (p .count) ll → p .next + k ≤ length ks
+    → (l : OpenLeaf) → l ≡ takes k ks vs (p .next) → (t : Shut) (o₂ : List ℕ) → t ≡ shutOf (fitOf (length out) (p .at) 96) (p .child) (p .at)
+    → o₂ ≡ outOf (fitOf (length out) (p .at) 96) out (p .at) (leafBytes (l .entries) (l .len))
+    → (x : Crossed) (o₃ : List ℕ) → (x .rank ≤ o) × ((p .next + k ≤ x .next) × (x .next ≤ length ks)) → CrossesAt ks vs ll (p .count + k) ns o (t .child) (p .next + k) (t .at) o₂ x o₃
+    → (r : Crossed) (o₄ : List ℕ) → (r .rank ≤ x .rank) × (r .next ≡ x .next) → Roomy ns (r .rank) → Rises ns (x .rank) (x .child) (x .at) o₃ r o₄
+    → Turns ks vs ll ns o p out (Up (record { top = x .rank; rank = r .rank; here = record { child = r .child; count = p .count + k; next = r .next; at = r .at } })) o₄
+turns-up ks vs ll ns o p out few same seen k z m l el t o₂ et eo x o₃ bx cr r o₄ br room ri = (
+  ((br .0, bx .0), ((omega (arith, z .0, bx .1, br .1), omega (arith, bx .1, br .1)), omega (arith, bx .1, br .1))),
+  (room, subst (λ (i : ℕ). Up′ i) (sym (br .1)) (main-goes ks vs ll ns o (p .child) (p .count) (p .next) (p .at) out few same k z m l el t o₂ et eo x o₃ cr r o₄ ri)),
+)
+  where
+    Up′ : ℕ → Type 0
+    Up′ i =
+        (let c = climbS (r .rank) ks vs (x .rank - r .rank) (stateOf ns (r .rank) (r .child) (p .count + k) i (r .at)) o₄ in
+        Goes ks vs ll (stateOf ns o (p .child) (p .count) (p .next) (p .at)) out (c .b) (c .out))
+
+-- Fewer entries are left than the next leaf takes.
+pub ended-turn : (ks vs : List ℕ) (ll : ℕ) (s₀ : Building) (out₀ : List ℕ) (ns : List OpenInner) (o : ℕ) (p : Place) (out out′ : List ℕ)
+    → Goes ks vs ll s₀ out₀ (stateOf ns o (p .child) (p .count) (p .next) (p .at)) out → o ≤ 5 → length ks ≡ length vs → p .next ≤ length ks → Turns ks vs ll ns o p out Short out′
+    → (restOf p ≡ leftOf (runS (length ks) ks vs ll s₀ out₀ .b)) × (out′ ≡ runS (length ks) ks vs ll s₀ out₀ .out)
+ended-turn ks vs ll s₀ out₀ ns o p out out′ g few same upto (k, (z, (h, e))) =
+    let r = ended-short ks vs ll s₀ out₀ ns o (p .child) (p .count) (p .next) (p .at) out g few same upto k z h in
+    (r .0, e ∙ r .1)
+
+-- All is closed.
 pub going-closed : (ks vs : List ℕ) (ll : ℕ) (s₀ : Building) (out₀ : List ℕ) (ns : List OpenInner) (o p : ℕ) (child : Child) (count next next′ at below : ℕ) (out : List ℕ) →
     let c = climbS o ks vs p (stateOf ns o child count next at) out in
     Goes ks vs ll s₀ out₀ (c .b) (c .out) → o ≡ 0 → below ≡ 0 → next′ ≡ next → length ns ≡ 5 → next′ ≤ length ks → count ≤ next′ → length out ≡ length out₀ →
@@ -421,7 +447,7 @@ going-closed ks vs ll s₀ out₀ ns o p child count next next′ at below out g
     let g₂ = goes-to ks vs ll s₀ out₀ (climbS 0 ks vs p (stateOf ns 0 child count next at) out) (st (stateOf ns 0 child count next at) out) (climb-none ks vs p 0 (stateOf ns 0 child count next at) out (omega arith)) g₁ in
     record { five = five; few = omega arith; upto = u; seen = s; long = l; goes = rw (b, n) g₂ }
 
--- a node with room takes an entry
+-- A node with room takes an entry.
 pub going-grown : (ks vs : List ℕ) (ll : ℕ) (s₀ : Building) (out₀ : List ℕ) (ns : List OpenInner) (o p : ℕ) (child : Child) (count next next′ at : ℕ) (out : List ℕ) →
     let c = climbS o ks vs p (stateOf ns o child count next at) out in
     Goes ks vs ll s₀ out₀ (c .b) (c .out) → (o ≡ 0 → ⊥) → next′ ≡ next → Roomy ns o → (e : Pair) → entryAt ks vs next′ ≡ Got e →
@@ -443,11 +469,11 @@ going-grown ks vs ll s₀ out₀ ns o p child count next next′ at out g z n ro
       goes = rw (eg, n) g₁;
     }
 
--- a node with room, and no entry is left
+-- A node with room, and no entry is left.
 pub ended-low : (ks vs : List ℕ) (ll : ℕ) (s₀ : Building) (out₀ : List ℕ) (ns : List OpenInner) (o p : ℕ) (child : Child) (count next next′ at : ℕ) (out : List ℕ) →
     let c = climbS o ks vs p (stateOf ns o child count next at) out in
     Goes ks vs ll s₀ out₀ (c .b) (c .out) → (o ≡ 0 → ⊥) → next′ ≡ next → Roomy ns o → entryAt ks vs next′ ≡ End →
-    (record { child = child; at = at } ≡ restOf (runS (length ks) ks vs ll s₀ out₀ .b)) × (out ≡ runS (length ks) ks vs ll s₀ out₀ .out)
+    (record { child = child; at = at } ≡ leftOf (runS (length ks) ks vs ll s₀ out₀ .b)) × (out ≡ runS (length ks) ks vs ll s₀ out₀ .out)
 ended-low ks vs ll s₀ out₀ ns o p child count next next′ at out g z n room h =
     let q : 0 < o = omega (arith, z) in
     let h′ : entryAt ks vs next ≡ End = rw n at h in
@@ -464,7 +490,7 @@ push-at n e c k h = ap (λ (j : ℕ). mk j) (sym h)
     mk : ℕ → OpenInner
     mk j = record { slots = set (n .slots) j (record { key = e .key; value = e .value; lesser = c }); len = n .len + 1 }
 
--- the same, where the arms of a match have met
+-- The same, where the arms of a match have met.
 pub push-came : (n x : OpenInner) (e : Pair) (c : Child) (k : ℕ) → n .len ≡ k → x ≡ record { slots = set (n .slots) k (record { key = e .key; value = e .value; lesser = c }); len = n .len } →
     record { slots = x .slots; len = n .len + 1 } ≡ pushInner n e c
 push-came n x e c k h f = ap (λ (y : OpenInner). mk y) f ∙ push-at n e c k h

@@ -3,36 +3,34 @@ use mathlib.Core.Path.{_≡_, refl, sym, ap, _∙_, subst, subst₂}
 use mathlib.Core.List.{List, [], _∷_, _++_, map, append-assoc, append-nil}
 use Prim.Native.Nat.{ℕ, zero, suc, _+_, _-_, _*_, _≤_, _<_}
 use native.Mathlib.Omega.{arith}
-use native.Mathlib.Nat.{suc-ne-zero, suc-inj, zero-add}
+use native.Mathlib.Nat.{suc-ne-zero, suc-inj}
 use native.Mathlib.Numerals.{add-one}
 use native.Mathlib.Decide.{decLt, ℕ-discrete}
 use borrow.Author.Tests.{lt-ltb, le-ltb, le-leb}
 use lib.ListN.{length, getD, set, drop, replicate, length-append, length-drop, length-set, length-replicate, length-map}
 use lib.Seq.{sets, set-append-seam, getD-set-same, getD-set-other, drop-cons, length-sets}
-use lib.Dec.{lit<, lit≤}
+use lib.Dec.{lit≤}
 use Rattle.format.specs.declared.Child.{Child}
 use Rattle.format.specs.declared.Child.the-variants.{Absent, At}
 use Rattle.format.specs.Layout.{layout32}
 use Rattle.format.specs.Bytes.{leBytes}
 use Rattle.format.specs.Tree as Tree
-use Rattle.format.specs.Tree.{Pair, Slot, slotOf, head, column, offsetBytes}
+use Rattle.format.specs.Tree.{Pair, Slot, slotOf, head, offsetBytes}
 use Rattle.format.specs.Build.{pairs}
 use Rattle.format.specs.Serialize.{State, withInners as withStack, closeLeaf, closeInner, grow, climb, Taken, takeEntries, transit, pushLeaf as pushPair, turn, step, run}
 use Rattle.format.specs.Laws.Bytes.{put-append, length-leBytes}
 use Rattle.format.specs.Laws.Laid.{length-column, length-offset}
 use Rattle.format.specs.Laws.Built32.{length-pairs}
 use Rattle.format.specs.Laws.Turns.{climb-close, climb-grow, turn-put, turn-close, turn-end}
-use Rattle.builder.specs.declared.map.Next.{Next}
 use Rattle.builder.specs.declared.map.Next.the-variants.{Got, End}
-use Rattle.builder.specs.declared.map.Fit.{Fit}
-use Rattle.builder.specs.declared.map.Fit.the-variants.{End as Ends, NoRoom}
+use Rattle.builder.specs.declared.map.Fit.the-variants.{End as Ends}
 use Rattle.builder.specs.declared.map.Filled.{Filled}
 use Rattle.builder.specs.declared.inline_vec.Pair.{Pair as Given}
 use Rattle.builder.specs.declared.inline_vec.Slot.{Slot as Held}
 use Rattle.builder.specs.declared.inline_vec.OpenLeaf.{OpenLeaf}
 use Rattle.builder.specs.declared.inline_vec.OpenInner.{OpenInner}
 use Rattle.builder.specs.declared.ser_vec.OpenInners.{OpenInners}
-use Rattle.builder.specs.Nodes.{noPair, noSlot, newInner, newLeaf, pushLeaf, pushInner, pushInners, popInners, noInner, lastInner, setLast, flat, lessersBytes, leafBytes, innerBytes}
+use Rattle.builder.specs.Nodes.{noPair, noSlot, newInner, pushLeaf, pushInner, pushInners, popInners, noInner, lastInner, setLast, flat, lessersBytes, leafBytes, innerBytes}
 use Rattle.builder.specs.Machine.{Building, St, entryAt, fitOf, takeB, shutLeaf, shutInner, fillS, transitS, withFilled, withInners, reopen, growAt, climbS, turnS, runS}
 use Rattle.builder.proofs.Answers.{shut-leaf-by, shut-inner-by, fill-got, fill-end, transit-none, transit-some, climb-none, climb-end, climb-got, climb-shut′}
 use Rattle.builder.proofs.Kept.{turn-last, turn-more, turn-full, run-got, run-end, shut-leaf-same, transit-kept, turn-kept}

@@ -8,11 +8,9 @@ use native.Mathlib.Numerals.{add-one}
 use borrow.Author.Tests.{lt-ltb, le-ltb, le-leb, lt-leb, eq-eqb, ne-eqb}
 use lib.ListN.{length, getD, drop, drop-of-length-le}
 use lib.Seq.{drop-cons}
-use lib.Dec.{ltb, leb, eqb}
 use Rattle.format.specs.Layout.{layout32}
 use Rattle.format.specs.Bytes.{put}
 use Rattle.format.specs.Refusal.{Answer, gives, refuses}
-use Rattle.format.specs.Tree.{Pair}
 use Rattle.format.specs.Build.{treeOf, behind, pairs, risesFrom, rises, build, outBy, outAfter}
 use Rattle.format.specs.Laws.Built32.{length-pairs}
 use Rattle.builder.specs.Size.{endOf}

@@ -67,7 +67,7 @@ zero-weighs (suc j) (suc m) =
 div-five : (x y : ℕ) → x ≡ 5 * y → x / 5 ≡ y
 div-five x y h = omega arith
 
--- a power more
+-- A power more.
 five-more : (p q : ℕ) → p ≡ 5 * q + 1 → (p * 6 - 1) / 5 ≡ q * 6 + 1
 five-more p q h = div-five (p * 6 - 1) (q * 6 + 1) (omega arith)
 

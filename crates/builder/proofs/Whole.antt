@@ -7,7 +7,6 @@ use native.Mathlib.Omega.{arith}
 use native.Mathlib.Nat.{not-suc-le-zero, pow-suc}
 use borrow.Author.Tests.{lt-ltb, le-ltb}
 use lib.ListN.{length, replicate, length-append, length-replicate}
-use lib.Seq.{sets}
 use lib.Dec.{lit<, lit≤}
 use Rattle.format.specs.declared.Child.{Child}
 use Rattle.format.specs.declared.Child.the-variants.{Absent}
@@ -27,7 +26,7 @@ use Rattle.format.specs.Laws.Height.{fitting}
 use Rattle.format.specs.Laws.Streaming.{Agrees, run-agrees, tree-there}
 use Rattle.format.specs.Laws.Built32.{length-pairs}
 use Rattle.builder.specs.declared.ser_vec.OpenInners.{OpenInners}
-use Rattle.builder.specs.Nodes.{newLeaf, newInners}
+use Rattle.builder.specs.Nodes.{newInners}
 use Rattle.builder.specs.Machine.{St, runS, reopen}
 use Rattle.builder.specs.Leaves.{stateOf}
 use Rattle.builder.specs.Size.{weight, endOf}

@@ -1,13 +1,11 @@
--- The streaming builder: `serialize_from_ordered_iter` step by step, on the code's own structs.
-use Prim.Native.Nat.{ℕ, zero, suc, _+_, _-_, _*_, _/_, _%_, _^_}
+-- The streaming builder step by step, on the code's own structs and its output. Assumes nothing: these are definitions.
+use Prim.Native.Nat.{ℕ, zero, suc, _+_, _-_}
 use mathlib.Core.Bool.{Bool, true, false}
-use mathlib.Core.List.{List, [], _∷_, _++_}
-use lib.ListN.{length, getD, set, take, drop, replicate}
+use mathlib.Core.List.{List}
+use lib.ListN.{length, getD}
 use lib.Seq.{sets}
 use lib.Dec.{ltb, leb, eqb}
-use Rattle.format.specs.Bytes.{leBytes}
-use Rattle.builder.specs.Nodes.{flat}
-use Rattle.builder.specs.Nodes.{newLeaf, newInner, newInners, pushLeaf, pushInner, pushInners, popInners, lastInner, setLast, leafBytes, innerBytes}
+use Rattle.builder.specs.Nodes.{newLeaf, pushLeaf, pushInner, pushInners, popInners, lastInner, setLast, leafBytes, innerBytes}
 use Rattle.format.specs.declared.Child.{Child}
 use Rattle.format.specs.declared.Child.the-variants.{Absent, At}
 use Rattle.builder.specs.declared.map.Fit.{Fit}
@@ -29,7 +27,7 @@ pub record Building : Type 0 where
   pub next : ℕ
   pub at : ℕ
 
--- the builder and the output
+-- The builder and the output.
 pub record St : Type 0 where
   pub b : Building
   pub out : List ℕ
@@ -48,11 +46,11 @@ pickFit false a b = b
 abbrev pub fitOf : ℕ → ℕ → ℕ → Fit
 fitOf len at size = pickFit (leb (at + size) len) (Ends (at + size)) NoRoom
 
--- an entry goes to the open leaf
+-- An entry goes to the open leaf.
 abbrev pub takeB : Building → Pair → Building
 takeB s e = record { leaf = pushLeaf (s .leaf) e; inners = s .inners; child = s .child; count = s .count + 1; next = s .next + 1; at = s .at }
 
--- the open leaf is closed
+-- The open leaf is closed.
 abbrev pub shutLeafAt : Fit → Building → List ℕ → St
 shutLeafAt (Ends e) s out =
     record {
@@ -65,7 +63,7 @@ shutLeafAt NoRoom s out =
 unfoldable pub shutLeaf : Building → List ℕ → St
 shutLeaf s out = shutLeafAt (fitOf (length out) (s .at) 96) s out
 
--- a node that is no more among the open ones is closed, the last closed child being its greater one
+-- A node that is no more among the open ones is closed, the last closed child being its greater one.
 abbrev pub shutInnerAt : Fit → OpenInner → Building → List ℕ → St
 shutInnerAt (Ends e) n s out =
     record {
@@ -77,7 +75,7 @@ shutInnerAt NoRoom n s out = record { b = s; out = out }
 unfoldable pub shutInner : OpenInner → Building → List ℕ → St
 shutInner n s out = shutInnerAt (fitOf (length out) (s .at) 112) n s out
 
--- an inner node takes entries until it is full, at most k
+-- An inner node takes entries until it is full, at most k.
 unfoldable pub fillS : ℕ → List ℕ → List ℕ → OpenInner → Child → ℕ → Filled
 fillS zero ks vs n c i = record { node = n; child = c; next = i }
 fillS (suc k) ks vs n c i =
@@ -92,7 +90,7 @@ withInners s i = record { leaf = s .leaf; inners = i; child = s .child; count = 
 abbrev pub withFilled : Building → OpenInners → Filled → Building
 withFilled s i f = record { leaf = s .leaf; inners = i; child = f .child; count = s .count; next = f .next; at = s .at }
 
--- the last level has ended: the lowest open inner node is filled and closed
+-- The last level has ended: the lowest open inner node is filled and closed.
 unfoldable pub transitS : List ℕ → List ℕ → Building → List ℕ → St
 unfolding fillS shutInner
 transitS ks vs s out =
@@ -108,7 +106,7 @@ abbrev pub reopen : ℕ → OpenInners → OpenInners
 reopen zero s = s
 reopen (suc k) s = reopen k (pushInners s)
 
--- the lowest open inner node takes an entry, and p nodes open below it
+-- The lowest open inner node takes an entry, and p nodes open below it.
 abbrev pub growAt : Next → ℕ → Building → Building
 growAt (Got e) p s =
     record {
@@ -121,7 +119,7 @@ growAt (Got e) p s =
     }
 growAt End p s = s
 
--- the closed node goes to the lowest open inner node that has room; full ones on the way are closed
+-- The closed node goes to the lowest open inner node that has room; full ones on the way are closed.
 unfoldable pub climbS : ℕ → List ℕ → List ℕ → ℕ → Building → List ℕ → St
 unfolding shutInner
 climbS zero ks vs p s out = record { b = s; out = out }
@@ -133,7 +131,7 @@ climbS (suc k) ks vs p s out =
           climbS k ks vs (p + 1) (t .b) (t .out))
     ]
 
--- an entry for the open leaf
+-- An entry for the open leaf.
 unfoldable pub turnS : List ℕ → List ℕ → ℕ → Pair → Building → List ℕ → St
 unfolding shutLeaf transitS climbS
 turnS ks vs ll e s out =

@@ -1,8 +1,8 @@
 -- The builder's open nodes, what their methods make of them, and the bytes of a closed node. Assumes nothing: these are definitions.
-use Prim.Native.Nat.{ℕ, zero, suc, _+_, _-_, _*_}
+use Prim.Native.Nat.{ℕ, zero, suc, _+_, _-_}
 use mathlib.Core.Bool.{Bool, true, false}
 use mathlib.Core.List.{List, [], _∷_, _++_, map}
-use lib.ListN.{length, getD, set, replicate}
+use lib.ListN.{getD, set, replicate}
 use lib.Dec.{ltb}
 use Rattle.format.specs.Layout.{layout32}
 use Rattle.format.specs.Bytes.{leBytes}

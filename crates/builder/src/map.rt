@@ -18,15 +18,16 @@ use format::Child;
 use format::Layout;
 use format::Position;
 ghost use mathlib.Core.Path.{_≡_};
-ghost use Prim.Native.Nat.{_+_, _-_, _<_, _≤_};
+ghost use Prim.Native.Nat.{_+_, _-_, _<_, _≤_, _^_};
 ghost use lib.ListN.{length};
+ghost use Rattle.format.specs.declared.Child.the-variants.{Absent};
 ghost use Rattle.format.specs.Layout.{layout32};
 ghost use Rattle.format.specs.Bytes.{leBytes, put};
 ghost use Rattle.format.specs.Tree.{emplaced, offsetBytes, lengthBranch, childOf, writeBranch};
 ghost use Rattle.format.specs.Build.{treeOf, recordBytes, pairs};
 ghost use Rattle.fields.specs.Answers.{storedOf};
 ghost use Rattle.builder.specs.Machine.{entryAt, fitOf, fillS, runS};
-ghost use Rattle.builder.specs.Leaves.{takes, shutOf, outOf, Told, Strides, StridesAt, Rises, Crosses, CrossesAt, Roomy, Sized, restOf, stateOf};
+ghost use Rattle.builder.specs.Leaves.{takes, shutOf, outOf, Told, Strides, StridesAt, Rises, Crosses, CrossesAt, Roomy, Sized, Turns, restOf, leftOf, stateOf};
 ghost use Rattle.builder.specs.Nodes.{leafBytes, lesserBytes, innerBytes};
 
 fn stored_bits(s: Stored) -> u32
@@ -128,7 +129,7 @@ fn close_inner(out: &mut [u8], pos: usize, node: OpenInner, greater: Child) -> u
     pos + Layout::INNER
 }
 
-// a less b, at least 0.
+// The difference, or 0 where b is larger.
 fn less(a: usize, b: usize) -> usize
     ensures { λ r. ⌜ r ≡ a - b ⌝ }
 {
@@ -188,7 +189,7 @@ fn fill(keys: &[u64], values: &[u64], node: OpenInner, child: Child, next: usize
     let mut n = node;
     let mut c = child;
     let mut i = next;
-    while n.len < 5 {
+    while n.len < Layout::ENTRIES {
         let Next::Got(e) = entry_at(keys, values, i) else {
             return Filled {
                 node: n,
@@ -207,13 +208,47 @@ fn fill(keys: &[u64], values: &[u64], node: OpenInner, child: Child, next: usize
     }
 }
 
-// The lowest open inner node, the last closed child, the entries seen by leaves, the next entry and the next position.
-pub struct Low {
-    pub node: OpenInner,
+// Between two leaves: the last closed child, the entries seen by leaves, the next entry and the next position.
+pub struct Place {
     pub child: Child,
     pub count: usize,
     pub next: usize,
     pub at: usize,
+}
+
+impl Place {
+    // Before the first entry.
+    pub(crate) fn new(at: usize) -> Self
+        ensures { λ r. ⌜ r ≡ record { child = Absent; count = 0; next = 0; at = at } ⌝ }
+    {
+        let child = Child::Absent;
+        Self {
+            child,
+            count: 0,
+            next: 0,
+            at,
+        }
+    }
+
+    // After the next entry went to an inner node.
+    pub(crate) fn taken(self) -> Self
+        requires { ⌜ self .next < 2 ^ 63 ⌝ }
+        ensures { λ r. ⌜ r ≡ record { child = Absent; count = self .count; next = self .next + 1; at = self .at } ⌝ }
+    {
+        let child = Child::Absent;
+        Self {
+            child,
+            count: self.count,
+            next: self.next + 1,
+            at: self.at,
+        }
+    }
+}
+
+// The lowest open inner node, where the builder is between two leaves.
+pub struct Low {
+    pub node: OpenInner,
+    pub here: Place,
 }
 
 // The last closed child and the next position.
@@ -230,6 +265,20 @@ pub struct Crossed {
     pub at: usize,
 }
 
+// The numbers of open inner nodes before and after the full ones were closed, and where the builder is then.
+pub struct Risen {
+    pub top: usize,
+    pub rank: usize,
+    pub here: Place,
+}
+
+// What closing the next leaf leads to.
+pub enum Turn {
+    Up(Risen),
+    // Fewer entries are left than a leaf takes.
+    Short,
+}
+
 // The end of a leaf of five at a position, if it fits, is not the last level's last, and an entry comes after it.
 fn leaf_fits(len: usize, at: usize, count: usize, next: usize, ll: usize, n: usize) -> Fit
     requires { ⌜ next ≤ n ⌝ }
@@ -238,10 +287,10 @@ fn leaf_fits(len: usize, at: usize, count: usize, next: usize, ll: usize, n: usi
     if n - next < 6 {
         return Fit::NoRoom;
     }
-    if len < 96 {
+    if len < Layout::LEAF {
         return Fit::NoRoom;
     }
-    if len - 96 < at {
+    if len - Layout::LEAF < at {
         return Fit::NoRoom;
     }
     if ll <= count {
@@ -280,7 +329,7 @@ fn leaf_at(keys: &[u64], values: &[u64], i: usize) -> OpenLeaf
     };
     OpenLeaf {
         entries: [a, b, c, d, e],
-        len: 5,
+        len: Layout::ENTRIES,
     }
 }
 
@@ -303,7 +352,7 @@ fn leaf_of(keys: &[u64], values: &[u64], i: usize, k: usize) -> OpenLeaf
     l
 }
 
-// A leaf is closed, if it fits.
+// The leaf is closed where it fits; `child` is the last closed one, if it does not.
 fn shut_leaf(out: &mut [u8], leaf: OpenLeaf, child: Child, at: usize) -> Shut
     ensures state { λ r. ⌜ r ≡ shutOf (fitOf (length (now (out .entry))) at 96) child at ⌝ }
     ensures bytes { λ r. ⌜ now (out .exit) ≡ outOf (fitOf (length (now (out .entry))) at 96) (now (out .entry)) at (leafBytes (leaf .entries) (leaf .len)) ⌝ }
@@ -319,7 +368,7 @@ fn shut_leaf(out: &mut [u8], leaf: OpenLeaf, child: Child, at: usize) -> Shut
     }
 }
 
-// An inner node is closed, if it fits.
+// The same of an inner node, of which `child` is the greater one.
 fn shut_node(out: &mut [u8], node: OpenInner, child: Child, at: usize) -> Shut
     ensures state { λ r. ⌜ r ≡ shutOf (fitOf (length (now (out .entry))) at 112) child at ⌝ }
     ensures bytes { λ r. ⌜ now (out .exit) ≡ outOf (fitOf (length (now (out .entry))) at 112) (now (out .entry)) at (innerBytes at node child) ⌝ }
@@ -337,25 +386,18 @@ fn shut_node(out: &mut [u8], node: OpenInner, child: Child, at: usize) -> Shut
 
 // The lowest open inner node takes leaves and entries while it has room.
 fn stride(out: &mut [u8], keys: &[u64], values: &[u64], ll: usize, low: Low) -> Low
-    requires { ⌜ (length (now keys) ≡ length (now values)) × (low .next ≤ length (now keys)) ⌝ }
-    requires { ⌜ (low .count ≤ low .next) ⌝ }
-    ensures bounds { λ r. ⌜ (r .next ≤ length (now (keys .entry))) × ((r .count ≤ r .next) × (low .next ≤ r .next)) ⌝ }
+    requires { ⌜ (length (now keys) ≡ length (now values)) × (low .here .next ≤ length (now keys)) ⌝ }
+    requires { ⌜ (low .here .count ≤ low .here .next) ⌝ }
+    ensures bounds { λ r. ⌜ (r .here .next ≤ length (now (keys .entry))) × ((r .here .count ≤ r .here .next) × (low .here .next ≤ r .here .next)) ⌝ }
     ensures went { λ r. ⌜ Strides (now (keys .entry)) (now (values .entry)) ll low (now (out .entry)) r (now (out .exit)) ⌝ }
 {
     let mut node = low.node;
-    let mut child = low.child;
-    let mut count = low.count;
-    let mut next = low.next;
-    let mut at = low.at;
-    while node.len < 5 {
-        let Fit::End(end) = leaf_fits(out.len(), at, count, next, ll, keys.len()) else {
-            return Low {
-                node,
-                child,
-                count,
-                next,
-                at,
-            };
+    let mut here = low.here;
+    while node.len < Layout::ENTRIES {
+        let at = here.at;
+        let next = here.next;
+        let Fit::End(end) = leaf_fits(out.len(), at, here.count, next, ll, keys.len()) else {
+            return Low { node, here };
         };
         let l = leaf_at(keys, values, next);
         close_leaf(out, at, l);
@@ -364,23 +406,33 @@ fn stride(out: &mut [u8], keys: &[u64], values: &[u64], ll: usize, low: Low) -> 
             key: keys[after],
             value: values[after],
         };
-        let here = Child::At(Position(at));
-        node = node.push(e, here);
-        child = Child::Absent;
-        at = end;
-        count += 5;
-        next += 6;
+        let leaf = Child::At(Position(at));
+        node = node.push(e, leaf);
+        let child = Child::Absent;
+        here = Place {
+            child,
+            count: here.count + 5,
+            next: next + 6,
+            at: end,
+        };
     }
-    Low {
-        node,
-        child,
-        count,
-        next,
-        at,
-    }
+    Low { node, here }
 }
 
-// The last level has ended at `count` entries: the lowest open inner node is filled and closed.
+// Strides where there is an open inner node; a single leaf has none.
+fn stride_at(out: &mut [u8], keys: &[u64], values: &[u64], ll: usize, rank: usize, low: Low) -> Low
+    requires { ⌜ (length (now keys) ≡ length (now values)) × (low .here .next ≤ length (now keys)) ⌝ }
+    requires { ⌜ (low .here .count ≤ low .here .next) × (rank ≤ 5) ⌝ }
+    ensures bounds { λ r. ⌜ (r .here .next ≤ length (now (keys .entry))) × ((r .here .count ≤ r .here .next) × (low .here .next ≤ r .here .next)) ⌝ }
+    ensures went { λ r. ⌜ StridesAt (now (keys .entry)) (now (values .entry)) ll rank low (now (out .entry)) r (now (out .exit)) ⌝ }
+{
+    if rank == 0 {
+        return low;
+    }
+    stride(out, keys, values, ll, low)
+}
+
+// The last level has ended: the lowest open inner node takes entries with no child between them, and is closed.
 fn cross(
     out: &mut [u8],
     keys: &[u64],
@@ -418,61 +470,7 @@ fn cross(
     }
 }
 
-// The full ones of the lowest open inner nodes are closed.
-fn rise(
-    out: &mut [u8],
-    inners: OpenInners,
-    rank: usize,
-    child: Child,
-    next: usize,
-    at: usize,
-) -> Crossed
-    requires { ⌜ (inners .len ≤ 5) × (rank ≤ inners .len) ⌝ }
-    ensures bounds { λ r. ⌜ (r .rank ≤ rank) × (r .next ≡ next) ⌝ }
-    ensures room { λ r. ⌜ Roomy (inners .nodes) (r .rank) ⌝ }
-    ensures went { λ r. ⌜ Rises (inners .nodes) rank child at (now (out .entry)) r (now (out .exit)) ⌝ }
-{
-    let mut o = rank;
-    let mut c = child;
-    let mut p = at;
-    while 0 < o {
-        let i = o - 1;
-        let lowest = inners.nodes[i];
-        if lowest.len < 5 {
-            return Crossed {
-                rank: o,
-                child: c,
-                next,
-                at: p,
-            };
-        }
-        let shut = shut_node(out, lowest, c, p);
-        c = shut.child;
-        p = shut.at;
-        o = i;
-    }
-    Crossed {
-        rank: o,
-        child: c,
-        next,
-        at: p,
-    }
-}
-
-// The same, if there is an open inner node.
-fn stride_at(out: &mut [u8], keys: &[u64], values: &[u64], ll: usize, rank: usize, low: Low) -> Low
-    requires { ⌜ (length (now keys) ≡ length (now values)) × (low .next ≤ length (now keys)) ⌝ }
-    requires { ⌜ (low .count ≤ low .next) × (rank ≤ 5) ⌝ }
-    ensures bounds { λ r. ⌜ (r .next ≤ length (now (keys .entry))) × ((r .count ≤ r .next) × (low .next ≤ r .next)) ⌝ }
-    ensures went { λ r. ⌜ StridesAt (now (keys .entry)) (now (values .entry)) ll rank low (now (out .entry)) r (now (out .exit)) ⌝ }
-{
-    if rank == 0 {
-        return low;
-    }
-    stride(out, keys, values, ll, low)
-}
-
-// The same, if the last level ends with `count` entries.
+// Crosses where the last level ends with `count` entries.
 fn cross_at(
     out: &mut [u8],
     keys: &[u64],
@@ -500,20 +498,102 @@ fn cross_at(
     }
 }
 
+// The lowest open inner nodes are closed as far as they are full.
+fn rise(
+    out: &mut [u8],
+    inners: OpenInners,
+    rank: usize,
+    child: Child,
+    next: usize,
+    at: usize,
+) -> Crossed
+    requires { ⌜ (inners .len ≤ 5) × (rank ≤ inners .len) ⌝ }
+    ensures bounds { λ r. ⌜ (r .rank ≤ rank) × (r .next ≡ next) ⌝ }
+    ensures room { λ r. ⌜ Roomy (inners .nodes) (r .rank) ⌝ }
+    ensures went { λ r. ⌜ Rises (inners .nodes) rank child at (now (out .entry)) r (now (out .exit)) ⌝ }
+{
+    let mut o = rank;
+    let mut c = child;
+    let mut p = at;
+    while 0 < o {
+        let i = o - 1;
+        let lowest = inners.nodes[i];
+        if lowest.len < Layout::ENTRIES {
+            return Crossed {
+                rank: o,
+                child: c,
+                next,
+                at: p,
+            };
+        }
+        let shut = shut_node(out, lowest, c, p);
+        c = shut.child;
+        p = shut.at;
+        o = i;
+    }
+    Crossed {
+        rank: o,
+        child: c,
+        next,
+        at: p,
+    }
+}
+
 // The entries of the next leaf.
 fn leaf_size(count: usize, ll: usize) -> usize
     ensures { λ r. ⌜ Sized r count ll ⌝ }
 {
     if ll <= count {
-        return 5;
+        return Layout::ENTRIES;
     }
-    if ll - count < 5 {
+    if ll - count < Layout::ENTRIES {
         return ll - count;
     }
-    5
+    Layout::ENTRIES
 }
 
-// All the entries, leaf by leaf.
+// The next leaf is closed, then the node over the last level where that ends with the leaf, then each node that is full.
+fn close_nodes(
+    out: &mut [u8],
+    keys: &[u64],
+    values: &[u64],
+    ll: usize,
+    inners: OpenInners,
+    here: Place,
+) -> Turn
+    requires { ⌜ (length (now keys) ≡ length (now values)) × (inners .len ≤ 5) ⌝ }
+    requires { ⌜ (here .next ≤ length (now keys)) × (here .count ≤ here .next) ⌝ }
+    ensures { λ r. ⌜ Turns (now (keys .entry)) (now (values .entry)) ll (inners .nodes) (inners .len) here (now (out .entry)) r (now (out .exit)) ⌝ }
+{
+    let begin = here.next;
+    let k = leaf_size(here.count, ll);
+    if keys.len() - begin < k {
+        return Turn::Short;
+    }
+    let last = here.child;
+    let l = leaf_of(keys, values, begin, k);
+    let t = shut_leaf(out, l, last, here.at);
+    let leaf = t.child;
+    let count = here.count + k;
+    let x = cross_at(out, keys, values, ll, count, inners, leaf, begin + k, t.at);
+    let top = x.rank;
+    let crossed = x.child;
+    let r = rise(out, inners, top, crossed, x.next, x.at);
+    let child = r.child;
+    let then = Place {
+        child,
+        count,
+        next: r.next,
+        at: r.at,
+    };
+    Turn::Up(Risen {
+        top,
+        rank: r.rank,
+        here: then,
+    })
+}
+
+// All the entries, leaf by leaf: where the builder is then.
 fn run(
     out: &mut [u8],
     keys: &[u64],
@@ -521,16 +601,13 @@ fn run(
     ll: usize,
     start: OpenInners,
     from: usize,
-) -> Shut
+) -> Place
     requires { ⌜ (length (now keys) ≡ length (now values)) × (start .len ≤ 5) ⌝ }
-    ensures state { λ r. ⌜ r ≡ restOf (runS (length (now (keys .entry))) (now (keys .entry)) (now (values .entry)) ll (stateOf (start .nodes) (start .len) Child.Absent 0 0 from) (now (out .entry)) .b) ⌝ }
-    ensures bytes { λ r. ⌜ now (out .exit) ≡ runS (length (now (keys .entry))) (now (keys .entry)) (now (values .entry)) ll (stateOf (start .nodes) (start .len) Child.Absent 0 0 from) (now (out .entry)) .out ⌝ }
+    ensures state { λ r. ⌜ restOf r ≡ leftOf (runS (length (now (keys .entry))) (now (keys .entry)) (now (values .entry)) ll (stateOf (start .nodes) (start .len) Absent 0 0 from) (now (out .entry)) .b) ⌝ }
+    ensures bytes { λ r. ⌜ now (out .exit) ≡ runS (length (now (keys .entry))) (now (keys .entry)) (now (values .entry)) ll (stateOf (start .nodes) (start .len) Absent 0 0 from) (now (out .entry)) .out ⌝ }
 {
     let mut inners = start;
-    let mut child = Child::Absent;
-    let mut count: usize = 0;
-    let mut next: usize = 0;
-    let mut at = from;
+    let mut here = Place::new(from);
     let mut below: usize = 0;
     loop {
         let rank = inners.len;
@@ -543,60 +620,30 @@ fn run(
         }
         let i = less(rank, 1);
         let node = inners.nodes[i];
-        let low = Low {
-            node,
-            child,
-            count,
-            next,
-            at,
-        };
-        let s = stride_at(out, keys, values, ll, rank, low);
+        let s = stride_at(out, keys, values, ll, rank, Low { node, here });
         let held = s.node;
         inners.nodes[i] = held;
-        let last = s.child;
-        let begin = s.next;
-        let k = leaf_size(s.count, ll);
-        if keys.len() - begin < k {
-            return Shut {
-                child: last,
-                at: s.at,
-            };
-        }
-        let l = leaf_of(keys, values, begin, k);
-        let t = shut_leaf(out, l, last, s.at);
-        let leaf = t.child;
-        let seen = s.count + k;
-        let x = cross_at(out, keys, values, ll, seen, inners, leaf, begin + k, t.at);
-        let top = x.rank;
-        let crossed = x.child;
-        let r = rise(out, inners, top, crossed, x.next, x.at);
-        let risen = r.child;
-        let open = r.rank;
-        let then = r.next;
-        if open == 0 {
+        let low = s.here;
+        let Turn::Up(r) = close_nodes(out, keys, values, ll, inners, low) else {
+            return low;
+        };
+        let risen = r.here;
+        if r.rank == 0 {
             inners.len = 0;
-            child = risen;
-            count = seen;
-            next = then;
-            at = r.at;
+            here = risen;
             continue;
         }
-        let Next::Got(e) = entry_at(keys, values, then) else {
-            return Shut {
-                child: risen,
-                at: r.at,
-            };
+        let Next::Got(e) = entry_at(keys, values, risen.next) else {
+            return risen;
         };
-        let j = open - 1;
+        let j = r.rank - 1;
         let lowest = inners.nodes[j];
-        let grown = lowest.push(e, risen);
+        let lesser = risen.child;
+        let grown = lowest.push(e, lesser);
         inners.nodes[j] = grown;
-        inners.len = open;
-        below = top - open;
-        child = Child::Absent;
-        count = seen;
-        next = then + 1;
-        at = r.at;
+        inners.len = r.rank;
+        below = r.top - r.rank;
+        here = risen.taken();
     }
 }
 
@@ -606,7 +653,7 @@ pub(crate) fn serialize_from_ordered_iter(
     at: usize,
     keys: &[u64],
     values: &[u64],
-) -> Shut
+) -> Place
     requires { ⌜ (length (now keys) ≡ length (now values)) × (0 < length (now keys)) ⌝ }
     requires { ⌜ (length (now keys) ≤ 40000) × (at + lengthBranch layout32 (treeOf layout32 (pairs (now keys) (now values))) ≤ length (now out)) ⌝ }
     ensures root { λ r. ⌜ r .child ≡ childOf layout32 (treeOf layout32 (pairs (now (keys .entry)) (now (values .entry)))) at ⌝ }

@@ -1,9 +1,9 @@
-use mathlib.Core.Path.{_≡_, refl, sym, ap, _∙_}
+-- `builder::build::build` meets its contract. Assumes nothing.
+use mathlib.Core.Path.{sym, ap, _∙_}
 use mathlib.Core.List.{List}
-use Prim.Native.Nat.{ℕ, _+_, _≤_, _<_}
+use Prim.Native.Nat.{ℕ}
 use native.Mathlib.Omega.{arith}
 use denote.Ref.{now}
-use lib.ListN.{length}
 use Rattle.format.specs.Bytes.{put}
 use Rattle.builder.specs.Size.{endOf}
 use Rattle.builder.proofs.Whole.{none-behind}
@@ -11,12 +11,6 @@ use Rattle.builder.proofs.Refusals.{not-true, not-false, refuse-10, ref
 use borrow.Author.Needs.{needs}
 use Rattle.builder.proofs.build.build.Statement.{statement}
 use Rattle.builder.proofs.build.build.Tie as tie
-use Rattle.builder.proofs.build.build.Reads as reads
-use Rattle.builder.proofs.build.build.Lts as lts
-use Rattle.builder.proofs.build.ascending.Reads as ascending-reads
-use Rattle.builder.proofs.build.build_none.Reads as build-none-reads
-use Rattle.builder.proofs.build.build_some.Reads as build-some-reads
-use Rattle.builder.proofs.size.end_of.Reads as end-of-reads
 
 returns : tie.Need-returns
 returns c =
@@ -30,9 +24,6 @@ returns-2 c =
     let r = refuse-11 (now (a .keys)) (now (a .values)) (a .header) (now (a .out)) (c .before .if1 .left) (c .if2 .taken) in
     (r .answer, r .after)
 
-ascending-requires : tie.Need-ascending-requires
-ascending-requires c κs = search needs
-
 returns-3 : tie.Need-returns-3
 returns-3 c =
     let a = c .before .before .before .before .before .before .before .args in
@@ -45,9 +36,6 @@ returns-4 c =
     let r = refuse-13 (now (a .keys)) (now (a .values)) (a .header) (now (a .out)) (c .before .before .before .before .if1 .left) (c .before .before .before .if2 .left) (sym (c .before .before .ascending .ensures) ∙ not-false (c .before .before .ascending .result) (c .before .if3 .left)) (c .if4 .taken) in
     (r .answer, r .after)
 
-end-of-requires : tie.Need-end-of-requires
-end-of-requires c κs = search needs
-
 returns-5 : tie.Need-returns-5
 returns-5 c =
     let a = c .before .before .before .before .before .before .before .before .before .before .args in
@@ -59,21 +47,12 @@ build-none-requires c κs =
     let e = ap (λ (n : ℕ). endOf n (c .before .before .before .before .before .before .before .before .before .before .before .before .args .header)) (c .before .if6 .taken) in
     (c .before .before .before .before .if4 .left, omega (arith, e, c .before .before .before .end-of .ensures, c .before .before .if5 .left))
 
-same-length : tie.Need-same-length
-same-length c = search needs
-
 returns-6 : tie.Need-returns-6
 returns-6 c =
     let a = c .before .before .before .before .before .before .before .before .before .before .before .before .before .before .before .args in
     let r = accepted (now (a .keys)) (now (a .values)) (a .header) (now (a .out)) (c .before .before .before .before .before .before .before .before .before .before .before .if1 .left) (c .before .before .before .before .before .before .before .before .before .before .if2 .left) (sym (c .before .before .before .before .before .before .before .before .before .ascending .ensures) ∙ not-false (c .before .before .before .before .before .before .before .before .before .ascending .result) (c .before .before .before .before .before .before .before .before .if3 .left)) (c .before .before .before .before .before .before .before .if4 .left) (omega (arith, c .before .before .before .before .before .before .end-of .ensures, c .before .before .before .before .before .if5 .left)) (c .before .before .before .before .before .before .end-of .result) (c .before .before .before .before .before .before .end-of .ensures) (c .before .before .build-none .last .0)
     (c .before .before .build-none .ensures ∙ ap (λ (x : List ℕ). put (now (a .out)) (a .header) x) (none-behind (now (a .keys)) (now (a .values)) (a .header) (c .before .before .before .before .if6 .taken))) in
     (r .answer, r .after)
-
-build-some-requires : tie.Need-build-some-requires
-build-some-requires c κs = search needs
-
-same-length-2 : tie.Need-same-length-2
-same-length-2 c = search needs
 
 returns-7 : tie.Need-returns-7
 returns-7 c =
@@ -87,14 +66,14 @@ build-spec =
     (tie.spec
     returns
     returns-2
-    ascending-requires
+    (search needs)
     returns-3
     returns-4
-    end-of-requires
+    (search needs)
     returns-5
     build-none-requires
-    same-length
+    (search needs)
     returns-6
-    build-some-requires
-    same-length-2
+    (search needs)
+    (search needs)
     returns-7)

@@ -1,18 +1,13 @@
-use mathlib.Core.Path.{_≡_, refl, sym, ap, _∙_}
-use Prim.Native.Nat.{ℕ, suc, _+_, _-_, _≤_, _<_}
+-- `builder::build::build_none` meets its contract. Assumes nothing.
+use mathlib.Core.Path.{refl}
+use Prim.Native.Nat.{_-_, _≤_}
 use native.Mathlib.Omega.{arith}
 use denote.Ref.{now}
-use lib.ListN.{length}
 use lib.Dec.{lit≤}
 use Rattle.builder.proofs.Whole.{is-4, end-zero, none-by}
 use borrow.Author.Needs.{needs}
 use Rattle.builder.proofs.build.build_none.Statement.{statement}
 use Rattle.builder.proofs.build.build_none.Tie as tie
-use Rattle.builder.proofs.build.build_none.Reads as reads
-use Rattle.builder.proofs.build.build_none.Lts as lts
-use Rattle.builder.proofs.map.resolve_from_len.Reads as resolve-from-len-reads
-use Rattle.builder.proofs.size.start_of.Reads as start-of-reads
-use Rattle.builder.proofs.words.put_zeros.Reads as put-zeros-reads
 
 start-of-requires : tie.Need-start-of-requires
 start-of-requires c κs = (c .before .pre .0, (lit≤ tt, is-4))
@@ -29,9 +24,6 @@ resolve-from-len-requires c κs =
     let e = end-zero 0 (s .args .header) (c .before .before .before .before .before .start-of .result) refl (c .before .before .before .before .before .start-of .ensures) in
     (omega (arith, e, s .pre .1), omega arith)
 
-same-length : tie.Need-same-length
-same-length c = search needs
-
 returns : tie.Need-returns
 returns c =
     let a = c .before .before .before .before .before .before .before .before .before .before .args in
@@ -41,4 +33,4 @@ returns c =
 pub build-none-spec : {M : Type 1} → statement M
 build-none-spec =
     tie.close
-    (tie.spec start-of-requires put-zeros-requires resolve-from-len-requires same-length returns)
+    (tie.spec start-of-requires put-zeros-requires resolve-from-len-requires (search needs) returns)

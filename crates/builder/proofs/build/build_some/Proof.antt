@@ -1,19 +1,12 @@
-use mathlib.Core.Path.{_≡_, refl, sym, ap, _∙_}
-use Prim.Native.Nat.{ℕ, suc, _+_, _-_, _≤_, _<_}
+-- `builder::build::build_some` meets its contract. Assumes nothing.
+use Prim.Native.Nat.{_-_, _≤_}
 use native.Mathlib.Omega.{arith}
 use denote.Ref.{now}
-use lib.ListN.{length}
 use lib.Dec.{lit≤}
 use Rattle.builder.proofs.Whole.{is-8, end-tree, some-by}
 use borrow.Author.Needs.{needs}
 use Rattle.builder.proofs.build.build_some.Statement.{statement}
 use Rattle.builder.proofs.build.build_some.Tie as tie
-use Rattle.builder.proofs.build.build_some.Reads as reads
-use Rattle.builder.proofs.build.build_some.Lts as lts
-use Rattle.builder.proofs.map.resolve_from_len.Reads as resolve-from-len-reads
-use Rattle.builder.proofs.map.serialize_from_ordered_iter.Reads as serialize-from-ordered-iter-reads
-use Rattle.builder.proofs.size.start_of.Reads as start-of-reads
-use Rattle.builder.proofs.words.put_zeros.Reads as put-zeros-reads
 
 start-of-requires : tie.Need-start-of-requires
 start-of-requires c κs = (c .before .before .before .pre .1 .1 .0, (lit≤ tt, is-8))
@@ -35,9 +28,6 @@ resolve-from-len-requires c κs =
     let e = end-tree (now (c .before .before .before .before .before .before .before .before .before .before .before .before .before .args .keys)) (now (c .before .before .before .before .before .before .before .before .before .before .before .before .before .args .values)) (c .before .before .before .before .before .before .before .before .before .before .before .before .before .pre .0 .0) (c .before .before .before .before .before .before .before .before .before .before .before .before .before .pre .0 .1) (c .before .before .before .before .before .before .before .before .before .before .before .before .before .pre .1 .0) (c .before .before .before .before .before .before .before .before .before .before .before .before .before .args .header) in
     (omega (arith, e, s .pre .1 .1 .1, c .before .before .before .before .before .before .before .before .before .start-of .ensures, c .before .before .before .serialize-from-ordered-iter .ensures .1 .0), s .pre .1 .0)
 
-same-length : tie.Need-same-length
-same-length c = search needs
-
 returns : tie.Need-returns
 returns c =
     let s = c .before .before .before .before .before .before .before .before .before .before .before .before .before .before .before .before in
@@ -57,5 +47,5 @@ build-some-spec =
     put-zeros-requires
     serialize-from-ordered-iter-requires
     resolve-from-len-requires
-    same-length
+    (search needs)
     returns)

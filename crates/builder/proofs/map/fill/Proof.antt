@@ -1,20 +1,15 @@
+-- `builder::map::fill` meets its contract. Assumes nothing.
 use borrow.Author.Needs.{needs}
 use native.Mathlib.Omega.{arith}
 use mathlib.Core.Path.{_≡_, refl, sym, ap, _∙_}
-use mathlib.Core.List.{List}
-use Prim.Native.Nat.{ℕ, suc, _+_, _-_, _≤_, _<_}
+use Prim.Native.Nat.{suc, _+_, _-_}
 use denote.Ref.{now}
-use lib.ListN.{length}
 use Rattle.builder.specs.Machine.{fillS, entryAt}
 use Rattle.builder.specs.declared.map.Next.the-variants.{Got, End}
 use Rattle.builder.specs.declared.inline_vec.OpenInner.{OpenInner}
 use Rattle.builder.proofs.Answers.{fill-got, fill-end, fill-full, got-below}
 use Rattle.builder.proofs.map.fill.Statement.{statement}
 use Rattle.builder.proofs.map.fill.Tie as tie
-use Rattle.builder.proofs.map.fill.Reads as reads
-use Rattle.builder.proofs.map.fill.Lts as lts
-use Rattle.builder.proofs.inline_vec.OpenInner.push.Reads as push-reads
-use Rattle.builder.proofs.map.entry_at.Reads as entry-at-reads
 
 abbrev Inv-loop : tie.InvT-loop
 Inv-loop keys values next n₀ c₀ i₀ n c i = fillS (5 - n .len) keys values n c i ≡ fillS (5 - n₀ .len) keys values n₀ c₀ i₀
@@ -22,23 +17,9 @@ Inv-loop keys values next n₀ c₀ i₀ n c i = fillS (5 - n .len) keys values 
 abbrev μ-loop : tie.MeasureT-loop
 μ-loop keys values next n₀ c₀ i₀ n c i = 5 - n .len
 
--- src/lib.rt:314:5
 loop-holds : tie.Need-loop-holds Inv-loop μ-loop
 loop-holds c = refl
 
--- src/lib.rt:315:28
-entry-at-requires : tie.Need-entry-at-requires Inv-loop μ-loop
-entry-at-requires c κs = search needs
-
--- src/lib.rt:315:23
-enum-known-e : tie.Need-enum-known-e Inv-loop μ-loop
-enum-known-e c = search needs
-
--- src/lib.rt:316:13
-enum-told : tie.Need-enum-told Inv-loop μ-loop
-enum-told c = search needs
-
--- src/lib.rt:316:13
 returns : tie.Need-returns Inv-loop μ-loop
 returns c =
     let l = c .before .before .before .before .before in
@@ -46,22 +27,18 @@ returns c =
     let h : entryAt (now (a .keys)) (now (a .values)) (l .loop .i) ≡ End = sym (c .before .before .entry-at .ensures) ∙ c .enum-told .given .1 in
     sym (fill-end (5 - l .loop .n .len) (now (a .keys)) (now (a .values)) (l .loop .n) (l .loop .c) (l .loop .i) h) ∙ l .loop .inv
 
--- src/lib.rt:322:9
 push-requires : tie.Need-push-requires Inv-loop μ-loop
 push-requires c κs = omega arith
 
--- src/lib.rt:324:9
 add-i : tie.Need-add-i Inv-loop μ-loop
 add-i c =
     let l = c .before .before .before .before .before .before .before in
     let a = l .before .before .before .args in
     omega (arith, l .before .before .before, got-below (now (a .keys)) (now (a .values)) (l .loop .i) (c .before .before .e .given .0 .0) (sym (c .before .before .before .before .entry-at .ensures) ∙ c .before .before .e .given .1))
 
--- src/lib.rt:314:5
 loop-less : tie.Need-loop-less Inv-loop μ-loop
 loop-less c = omega (arith, c .before .before .before .before .before, ap (λ (n : OpenInner). n .len) (c .push .ensures))
 
--- src/lib.rt:314:5
 loop-again : tie.Need-loop-again Inv-loop μ-loop
 loop-again c =
     let l = c .before .before .before .before .before .before .before in
@@ -72,7 +49,6 @@ loop-again c =
     (fill-got (5 - (l .loop .n .len + 1)) (now (a .keys)) (now (a .values)) (l .loop .n) (l .loop .c) (l .loop .i) _ h
     ∙ rw e at (l .loop .inv))
 
--- src/lib.rt:307:1
 returns-2 : tie.Need-returns-2 Inv-loop μ-loop
 returns-2 c =
     let l = c .before .before in
@@ -87,9 +63,9 @@ fill-spec =
     Inv-loop
     μ-loop
     loop-holds
-    entry-at-requires
-    enum-known-e
-    enum-told
+    (search needs)
+    (search needs)
+    (search needs)
     returns
     push-requires
     add-i

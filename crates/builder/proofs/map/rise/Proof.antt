@@ -1,28 +1,17 @@
+-- `builder::map::rise` meets its contract. Assumes nothing.
 use borrow.Author.Needs.{needs}
 use native.Mathlib.Omega.{arith}
-use mathlib.Core.Path.{_≡_, refl, sym, ap, _∙_, subst}
+use mathlib.Core.Path.{_≡_, refl, ap, _∙_}
 use mathlib.Core.List.{List, []}
-use mathlib.Core.Logic.{_⊎_, inl, inr}
-use Prim.Native.Nat.{ℕ, zero, suc, _+_, _-_, _≤_, _<_}
+use Prim.Native.Nat.{ℕ, _+_, _-_, _≤_, _<_}
 use denote.Ref.{now}
 use lib.ListN.{length, getD}
-use Rattle.format.specs.declared.Child.{Child}
-use Rattle.format.specs.declared.Child.the-variants.{Absent, At}
-use Rattle.builder.specs.declared.map.Fit.{Fit}
-use Rattle.builder.specs.declared.map.Fit.the-variants.{End as Ends, NoRoom}
-use Rattle.builder.specs.Leaves.{takes, entryOf, stateOf, Strides, Rises, Crosses, Roomy, Told, shutOf, outOf}
-use Rattle.builder.proofs.Leaves.{takes-step, takes-len, shut-none, shut-some, cross-by, rise-by, strides-none, strides-more}
-use Rattle.builder.specs.declared.inline_vec.OpenLeaf.{OpenLeaf}
+use Rattle.builder.specs.Leaves.{stateOf}
+use Rattle.builder.proofs.Leaves.{rise-by}
 use Rattle.builder.specs.declared.inline_vec.OpenInner.{OpenInner}
-use Rattle.builder.specs.Nodes.{leafBytes, innerBytes}
-use Rattle.builder.specs.Machine.{climbS, transitS, fitOf}
-use Rattle.builder.proofs.Answers.{ends-within, transit-none}
-use Rattle.builder.proofs.Kept.{fill-next}
+use Rattle.builder.specs.Machine.{climbS}
 use Rattle.builder.proofs.map.rise.Statement.{statement}
 use Rattle.builder.proofs.map.rise.Tie as tie
-use Rattle.builder.proofs.map.rise.Reads as reads
-use Rattle.builder.proofs.map.rise.Lts as lts
-use Rattle.builder.proofs.map.shut_node.Reads as shut-node-reads
 
 abbrev Inv-loop : tie.InvT-loop
 Inv-loop out₀ rank next at inners o₀ c₀ p₀ out o c p =
@@ -31,44 +20,26 @@ Inv-loop out₀ rank next at inners o₀ c₀ p₀ out o c p =
 abbrev μ-loop : tie.MeasureT-loop
 μ-loop out₀ rank next at inners o₀ c₀ p₀ out o c p = o
 
--- src/lib.rt:829:5
 loop-holds : tie.Need-loop-holds Inv-loop μ-loop
 loop-holds c =
     let a = c .before .args in
     let e : 0 ≡ a .rank - a .rank = omega arith in
     ((omega arith, refl), (λ (ks vs : List ℕ) (count nx : ℕ). ap (λ (k : ℕ). climbS (a .rank) ks vs k (stateOf (a .t2 .nodes) (a .rank) (a .child) count nx (a .at)) (now (a .out))) e))
 
--- src/lib.rt:830:17
 sub-i : tie.Need-sub-i Inv-loop μ-loop
 sub-i c = omega arith
 
--- src/lib.rt:831:22
 mul-lowest : tie.Need-mul-lowest Inv-loop μ-loop
 mul-lowest c = omega arith
 
--- src/lib.rt:831:22
-element-copy-out-lowest : tie.Need-element-copy-out-lowest Inv-loop μ-loop
-element-copy-out-lowest c = search needs
-
--- src/lib.rt:833:13
-same-length : tie.Need-same-length Inv-loop μ-loop
-same-length c = search needs
-
--- src/lib.rt:833:13
 returns : tie.Need-returns Inv-loop μ-loop
 returns c =
     let l = c .before .before .before .before in
     ((l .loop .inv .0 .0, refl), ((λ (z : 0 < l .loop .o). c .if1 .taken), l .loop .inv .1))
 
--- src/lib.rt:840:13
-shut-node-requires : tie.Need-shut-node-requires Inv-loop μ-loop
-shut-node-requires c κs = search needs
-
--- src/lib.rt:829:5
 loop-less : tie.Need-loop-less Inv-loop μ-loop
 loop-less c = omega (arith, c .before .before .before .before .before .before .before .loop-test .taken)
 
--- src/lib.rt:829:5
 loop-again : tie.Need-loop-again Inv-loop μ-loop
 loop-again c =
     let l = c .before .before .before .before .before .before .before .before in
@@ -84,11 +55,6 @@ loop-again c =
           ∙ ap (λ (k : ℕ). climbS (l .loop .o - 1) ks vs k (stateOf (a .t2 .nodes) (l .loop .o - 1) (r .result .child) count nx (r .result .at)) (r .last .0)) e),
     )
 
--- src/lib.rt:820:1
-same-length-2 : tie.Need-same-length-2 Inv-loop μ-loop
-same-length-2 c = search needs
-
--- src/lib.rt:820:1
 returns-2 : tie.Need-returns-2 Inv-loop μ-loop
 returns-2 c =
     let l = c .before in
@@ -103,11 +69,11 @@ rise-spec =
     loop-holds
     sub-i
     mul-lowest
-    element-copy-out-lowest
-    same-length
+    (search needs)
+    (search needs)
     returns
-    shut-node-requires
+    (search needs)
     loop-less
     loop-again
-    same-length-2
+    (search needs)
     returns-2)

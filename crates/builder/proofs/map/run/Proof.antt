@@ -1,451 +1,304 @@
-use Prim.Native.Nat.{_*_}
-use lib.ListN.{set, length-map, length-set}
-use Rattle.builder.specs.Leaves.{Goes, Sized}
-use Rattle.builder.proofs.Answers.{got-below}
-use Rattle.builder.proofs.Leaves.{Going, going-open, going-strode, going-closed, going-grown, ended-low, ended-short, main-goes, goes-then, goes-refl}
+-- `builder::map::run` meets its contract. Assumes nothing.
 use borrow.Author.Needs.{needs}
-use native.Mathlib.Omega.{arith}
 use mathlib.Core.Path.{_≡_, refl, sym, ap, _∙_, subst}
-use mathlib.Core.List.{List, []}
-use mathlib.Core.Logic.{_⊎_, inl, inr}
-use Prim.Native.Nat.{ℕ, zero, suc, _+_, _-_, _≤_, _<_}
+use Prim.Native.Nat.{_+_, _-_, _*_, _<_}
+use native.Mathlib.Omega.{arith}
 use denote.Ref.{now}
-use lib.ListN.{length, getD}
-use Rattle.format.specs.declared.Child.{Child}
-use Rattle.format.specs.declared.Child.the-variants.{Absent, At}
-use Rattle.builder.specs.declared.map.Fit.{Fit}
-use Rattle.builder.specs.declared.map.Fit.the-variants.{End as Ends, NoRoom}
-use Rattle.builder.specs.Leaves.{takes, entryOf, stateOf, Strides, Rises, Crosses, Roomy, Told, shutOf, outOf}
-use Rattle.builder.proofs.Leaves.{takes-step, takes-len, shut-none, shut-some, cross-by, rise-by, strides-none, strides-more}
-use Rattle.builder.specs.declared.inline_vec.OpenLeaf.{OpenLeaf}
-use Rattle.builder.specs.declared.inline_vec.OpenInner.{OpenInner}
-use Rattle.builder.specs.Nodes.{leafBytes, innerBytes}
-use Rattle.builder.specs.Machine.{climbS, transitS, fitOf}
-use Rattle.builder.proofs.Answers.{ends-within, transit-none}
-use Rattle.builder.proofs.Kept.{fill-next}
+use lib.ListN.{length, getD, set, length-map, length-set}
+use Rattle.format.specs.declared.Child.the-variants.{Absent}
+use Rattle.builder.specs.declared.map.Turn.{Turn}
+use Rattle.builder.specs.declared.map.Turn.the-variants.{Up, Short}
+use Rattle.builder.specs.Nodes.{noInner}
+use Rattle.builder.specs.Leaves.{Goes, Turns, stateOf}
+use Rattle.builder.specs.declared.map.Place.{Place}
+use Rattle.builder.proofs.Answers.{got-below}
+use Rattle.builder.proofs.Leaves.{Going, going-open, going-strode, going-closed, going-grown, ended-low, ended-turn, goes-then, goes-refl}
 use Rattle.builder.proofs.map.run.Statement.{statement}
 use Rattle.builder.proofs.map.run.Tie as tie
-use Rattle.builder.proofs.map.run.Reads as reads
-use Rattle.builder.proofs.map.run.Lts as lts
-use Rattle.builder.proofs.inline_vec.OpenInner.new.Reads as new-reads
-use Rattle.builder.proofs.inline_vec.OpenInner.push.Reads as push-reads
-use Rattle.builder.proofs.map.cross_at.Reads as cross-at-reads
-use Rattle.builder.proofs.map.entry_at.Reads as entry-at-reads
-use Rattle.builder.proofs.map.leaf_of.Reads as leaf-of-reads
-use Rattle.builder.proofs.map.leaf_size.Reads as leaf-size-reads
-use Rattle.builder.proofs.map.less.Reads as less-reads
-use Rattle.builder.proofs.map.rise.Reads as rise-reads
-use Rattle.builder.proofs.map.shut_leaf.Reads as shut-leaf-reads
-use Rattle.builder.proofs.map.stride_at.Reads as stride-at-reads
 
 abbrev Inv-loop : tie.InvT-loop
-Inv-loop out₀ keys values ll from inners₀ child₀ count₀ next₀ at₀ below₀ out inners child count next at below =
-    Going keys values ll (stateOf (inners₀ .nodes) (inners₀ .len) child₀ count₀ next₀ at₀) out₀ inners child count next at below out
+Inv-loop out₀ keys values ll from inners₀ here₀ below₀ out inners here below =
+    Going keys values ll (stateOf (inners₀ .nodes) (inners₀ .len) Absent 0 0 from) out₀ inners (here .child) (here .count) (here .next) (here .at) below out
 
 abbrev μ-loop : tie.MeasureT-loop
-μ-loop out₀ keys values ll from inners₀ child₀ count₀ next₀ at₀ below₀ out inners child count next at below =
-    6 * (length keys - next) + below
+μ-loop out₀ keys values ll from inners₀ here₀ below₀ out inners here below = 6 * (length keys - here .next) + below
 
-strode-of : (c : tie.After-leaf-size Inv-loop μ-loop) →
-    let l = c .before .before .before .before .before .before .before .before .before in
-    let s = c .before .before .before .before .before .before .before .before .before .before .before .before .before in
-    let a = s .args in
-    let i = c .before .before .before .before .before .before .before .less in
-    let st = c .before .before .before .before .stride-at in
-    Goes (now (a .keys)) (now (a .values)) (a .ll) (stateOf (a .start .nodes) (a .start .len) Absent 0 0 (a .from)) (now (a .out)) (stateOf (set (l .loop .inners .nodes) (i .result) (st .result .node)) (l .loop .inners .len) (st .result .child) (st .result .count) (st .result .next) (st .result .at)) (st .last .0)
-strode-of c =
-    let l = c .before .before .before .before .before .before .before .before .before in
-    let s = c .before .before .before .before .before .before .before .before .before .before .before .before .before in
-    let a = s .args in
-    let i = c .before .before .before .before .before .before .before .less in
-    let st = c .before .before .before .before .stride-at in
-    let g = l .loop .inv in
-    going-strode (now (a .keys)) (now (a .values)) (a .ll) (stateOf (a .start .nodes) (a .start .len) Absent 0 0 (a .from)) (now (a .out)) (l .loop .inners) (l .loop .child) (l .loop .count) (l .loop .next) (l .loop .at) (l .loop .below) (l .loop .out)
-    g (omega (arith, c .before .before .before .before .before .before .before .before .if1 .left)) (i .result) (i .ensures) (getD (l .loop .inners .nodes) (i .result) (record { slots = []; len = 0 })) refl (st .result) (st .last .0) (st .ensures .1)
-
-main-of : (c : tie.After-slice-known5 Inv-loop μ-loop) →
-    let l = c .before .before .before .before .before .before .before .before .before .before .before .before .before .before .before .before .before .before .before .before .before .before .before .before in
-    let s = c .before .before .before .before .before .before .before .before .before .before .before .before .before .before .before .before .before .before .before .before .before .before .before .before .before .before .before .before in
-    let a = s .args in
-    let i = c .before .before .before .before .before .before .before .before .before .before .before .before .before .before .before .before .before .before .before .before .before .before .less in
-    let st = c .before .before .before .before .before .before .before .before .before .before .before .before .before .before .before .before .before .before .before .stride-at in
-    let k = c .before .before .before .before .before .before .before .before .before .before .before .before .before .before .before .leaf-size in
-    let lf = c .before .before .before .before .before .before .before .before .before .before .before .before .before .leaf-of in
-    let sh = c .before .before .before .before .before .before .before .before .before .before .before .shut-leaf in
-    let x = c .before .before .before .before .before .before .cross-at in
-    let r = c .before .before .rise in
-    Goes (now (a .keys)) (now (a .values)) (a .ll) (stateOf (a .start .nodes) (a .start .len) Absent 0 0 (a .from)) (now (a .out)) ((climbS (r .result .rank) (now (a .keys)) (now (a .values)) (x .result .rank - r .result .rank) (stateOf (set (l .loop .inners .nodes) (i .result) (st .result .node)) (r .result .rank) (r .result .child) (st .result .count + k .result) (x .result .next) (r .result .at)) (r .last .0)) .b) ((climbS (r .result .rank) (now (a .keys)) (now (a .values)) (x .result .rank - r .result .rank) (stateOf (set (l .loop .inners .nodes) (i .result) (st .result .node)) (r .result .rank) (r .result .child) (st .result .count + k .result) (x .result .next) (r .result .at)) (r .last .0)) .out)
-main-of c =
-    let l = c .before .before .before .before .before .before .before .before .before .before .before .before .before .before .before .before .before .before .before .before .before .before .before .before in
-    let s = c .before .before .before .before .before .before .before .before .before .before .before .before .before .before .before .before .before .before .before .before .before .before .before .before .before .before .before .before in
-    let a = s .args in
-    let i = c .before .before .before .before .before .before .before .before .before .before .before .before .before .before .before .before .before .before .before .before .before .before .less in
-    let st = c .before .before .before .before .before .before .before .before .before .before .before .before .before .before .before .before .before .before .before .stride-at in
-    let k = c .before .before .before .before .before .before .before .before .before .before .before .before .before .before .before .leaf-size in
-    let lf = c .before .before .before .before .before .before .before .before .before .before .before .before .before .leaf-of in
-    let sh = c .before .before .before .before .before .before .before .before .before .before .before .shut-leaf in
-    let x = c .before .before .before .before .before .before .cross-at in
-    let r = c .before .before .rise in
-    let g = l .loop .inv in
-    goes-then (now (a .keys)) (now (a .values)) (a .ll) (stateOf (a .start .nodes) (a .start .len) Absent 0 0 (a .from)) _ _ (now (a .out)) (st .last .0) _ (strode-of (c .before .before .before .before .before .before .before .before .before .before .before .before .before .before .before))
-    (main-goes (now (a .keys)) (now (a .values)) (a .ll) (set (l .loop .inners .nodes) (i .result) (st .result .node)) (l .loop .inners .len) (st .result .child) (st .result .count) (st .result .next) (st .result .at) (st .last .0) (omega (arith, g .few)) (s .pre .0)
-    (k .result) (k .ensures) (omega (arith, st .ensures .0 .0, c .before .before .before .before .before .before .before .before .before .before .before .before .before .before .if2 .left)) (lf .result) (lf .ensures) (sh .result) (sh .last .0) (sh .ensures .0) (sh .ensures .1)
-    (x .result) (x .last .0) (x .ensures .1) (r .result) (r .last .0) (r .ensures .1 .1))
-
--- what the numbers are
-abbrev Facts : ℕ → ℕ → ℕ → ℕ → ℕ → ℕ → Type 0
-Facts n next seen then top «open» = ((next < then) × (then ≤ n)) × ((seen ≤ then) × ((«open» ≤ top) × (top ≤ 5)))
-
-facts-of : (c : tie.After-slice-known5 Inv-loop μ-loop) →
-    let l = c .before .before .before .before .before .before .before .before .before .before .before .before .before .before .before .before .before .before .before .before .before .before .before .before in
-    let s = c .before .before .before .before .before .before .before .before .before .before .before .before .before .before .before .before .before .before .before .before .before .before .before .before .before .before .before .before in
-    let a = s .args in
-    let i = c .before .before .before .before .before .before .before .before .before .before .before .before .before .before .before .before .before .before .before .before .before .before .less in
-    let st = c .before .before .before .before .before .before .before .before .before .before .before .before .before .before .before .before .before .before .before .stride-at in
-    let k = c .before .before .before .before .before .before .before .before .before .before .before .before .before .before .before .leaf-size in
-    let lf = c .before .before .before .before .before .before .before .before .before .before .before .before .before .leaf-of in
-    let sh = c .before .before .before .before .before .before .before .before .before .before .before .shut-leaf in
-    let x = c .before .before .before .before .before .before .cross-at in
-    let r = c .before .before .rise in
-    Facts (length (now (a .keys))) (l .loop .next) (st .result .count + k .result) (r .result .next) (x .result .rank) (r .result .rank)
-facts-of c =
-    let l = c .before .before .before .before .before .before .before .before .before .before .before .before .before .before .before .before .before .before .before .before .before .before .before .before in
-    let s = c .before .before .before .before .before .before .before .before .before .before .before .before .before .before .before .before .before .before .before .before .before .before .before .before .before .before .before .before in
-    let a = s .args in
-    let i = c .before .before .before .before .before .before .before .before .before .before .before .before .before .before .before .before .before .before .before .before .before .before .less in
-    let st = c .before .before .before .before .before .before .before .before .before .before .before .before .before .before .before .before .before .before .before .stride-at in
-    let k = c .before .before .before .before .before .before .before .before .before .before .before .before .before .before .before .leaf-size in
-    let lf = c .before .before .before .before .before .before .before .before .before .before .before .before .before .leaf-of in
-    let sh = c .before .before .before .before .before .before .before .before .before .before .before .shut-leaf in
-    let x = c .before .before .before .before .before .before .cross-at in
-    let r = c .before .before .rise in
-    let g = l .loop .inv in
-    let q = c .before .before .before .before .before .before .before .before .before .before .before .before .before .before .if2 .left in
-    let w = k .ensures .0 in (
-      (omega (arith, st .ensures .0, x .ensures .0, r .ensures .0, w), omega (arith, x .ensures .0, r .ensures .0)),
-      (omega (arith, st .ensures .0, x .ensures .0, r .ensures .0), (r .ensures .0 .0, omega (arith, x .ensures .0, g .few))),
-    )
-
--- src/lib.rt:909:5
 loop-holds : tie.Need-loop-holds Inv-loop μ-loop
 loop-holds c =
-    let s = c .before .before .before in
+    let s = c .before .before .before .before in
     let a = s .args in
+    let e = c .new .ensures in
     record {
       five = simp length-map at (s .good .1 .1 .1 .1 .0 .1 .1 .0 .1 .0 .1);
       few = omega (arith, s .pre .1);
-      upto = omega arith;
-      seen = omega arith;
+      upto = rw e (omega arith);
+      seen = rw e (omega arith);
       long = refl;
-      goes = goes-refl (now (a .keys)) (now (a .values)) (a .ll) (stateOf (a .start .nodes) (a .start .len) Absent 0 0 (a .from)) (now (a .out));
+      goes = rw e (goes-refl (now (a .keys)) (now (a .values)) (a .ll) (stateOf (a .start .nodes) (a .start .len) Absent 0 0 (a .from)) (now (a .out)));
     }
 
--- src/lib.rt:912:17
-new-requires : tie.Need-new-requires Inv-loop μ-loop
-new-requires c κs = search needs
-
--- src/lib.rt:913:13
 mul-fresh : tie.Need-mul-fresh Inv-loop μ-loop
 mul-fresh c = omega (arith, c .before .before .loop .inv .few, c .before .if1 .taken)
 
--- src/lib.rt:913:13
 element-set-from-fresh : tie.Need-element-set-from-fresh Inv-loop μ-loop
 element-set-from-fresh c = omega (arith, c .before .before .loop .inv .few, c .before .if1 .taken)
 
--- src/lib.rt:914:26
 add-inners : tie.Need-add-inners Inv-loop μ-loop
 add-inners c = omega (arith, c .before .before .loop .inv .few, c .before .if1 .taken)
 
--- src/lib.rt:915:13
 sub-below : tie.Need-sub-below Inv-loop μ-loop
 sub-below c = omega (arith, c .before .if1 .taken)
 
--- src/lib.rt:909:5
 loop-less : tie.Need-loop-less Inv-loop μ-loop
 loop-less c = omega (arith, c .before .if1 .taken)
 
--- src/lib.rt:909:5
 loop-again : tie.Need-loop-again Inv-loop μ-loop
 loop-again c =
     let l = c .before .before in
-    let s = c .before .before .before .before .before .before in
+    let s = c .before .before .before .before .before .before .before in
     let a = s .args in
-    going-open (now (a .keys)) (now (a .values)) (a .ll) (stateOf (a .start .nodes) (a .start .len) Absent 0 0 (a .from)) (now (a .out)) (l .loop .inners) (l .loop .child) (l .loop .count) (l .loop .next) (l .loop .at) (l .loop .below) (l .loop .out) (c .new .result) (l .loop .inv) (c .before .if1 .taken) (c .new .ensures)
+    let w = c .new2 in
+    going-open (now (a .keys)) (now (a .values)) (a .ll) (stateOf (a .start .nodes) (a .start .len) Absent 0 0 (a .from)) (now (a .out)) (l .loop .inners) (l .loop .here .child) (l .loop .here .count) (l .loop .here .next) (l .loop .here .at) (l .loop .below) (l .loop .out) (w .result) (l .loop .inv) (c .before .if1 .taken) (w .ensures)
 
--- src/lib.rt:918:13
-less-requires : tie.Need-less-requires Inv-loop μ-loop
-less-requires c κs = search needs
-
--- src/lib.rt:919:20
 mul-node : tie.Need-mul-node Inv-loop μ-loop
 mul-node c = omega (arith, c .before .before .loop .inv .few, c .less .ensures)
 
--- src/lib.rt:919:20
 element-copy-out-node : tie.Need-element-copy-out-node Inv-loop μ-loop
 element-copy-out-node c = omega (arith, c .before .before .loop .inv .few, c .less .ensures)
 
--- src/lib.rt:927:13
 stride-at-requires : tie.Need-stride-at-requires Inv-loop μ-loop
-stride-at-requires c κs =
-    let l = c .before .before .before .before in
-    let s = c .before .before .before .before .before .before .before .before in
-    ((s .pre .0, l .loop .inv .upto), (l .loop .inv .seen, omega (arith, l .loop .inv .few)))
+stride-at-requires c κs = let l = c .before .before .before .before in let s = c .before .before .before .before .before .before .before .before .before in ((s .pre .0, l .loop .inv .upto), (l .loop .inv .seen, omega (arith, l .loop .inv .few)))
 
--- src/lib.rt:929:9
 mul-held : tie.Need-mul-held Inv-loop μ-loop
 mul-held c = omega (arith, c .before .before .before .before .before .before .before .before .loop .inv .few, c .before .before .before .before .before .before .less .ensures)
 
--- src/lib.rt:929:9
 element-set-from-held : tie.Need-element-set-from-held Inv-loop μ-loop
 element-set-from-held c = omega (arith, c .before .before .before .before .before .before .before .before .loop .inv .few, c .before .before .before .before .before .before .less .ensures)
 
--- src/lib.rt:932:13
-leaf-size-requires : tie.Need-leaf-size-requires Inv-loop μ-loop
-leaf-size-requires c κs = search needs
+close-nodes-requires : tie.Need-close-nodes-requires Inv-loop μ-loop
+close-nodes-requires c κs = let l = c .before .before .before .before .before .before .before .before .before .before in let s = c .before .before .before .before .before .before .before .before .before .before .before .before .before .before .before in let st = c .before .before .before .before .before .stride-at in ((s .pre .0, omega (arith, l .loop .inv .few)), (st .ensures .0 .0, st .ensures .0 .1 .0))
 
--- src/lib.rt:933:12
-sub-if2 : tie.Need-sub-if2 Inv-loop μ-loop
-sub-if2 c = omega (arith, c .before .before .before .before .stride-at .ensures .0)
-
--- src/lib.rt:934:13
 same-length : tie.Need-same-length Inv-loop μ-loop
-same-length c = c .before .before .before .before .before .stride-at .kept .0 ∙ c .before .before .before .before .before .before .before .before .before .before .loop .inv .long
+same-length c = c .before .before .before .before .close-nodes .kept .0 ∙ c .before .before .before .before .before .before .before .before .before .before .stride-at .kept .0 ∙ c .before .before .before .before .before .before .before .before .before .before .before .before .before .before .before .loop .inv .long
 
--- src/lib.rt:934:13
 returns : tie.Need-returns Inv-loop μ-loop
 returns c =
-    let l = c .before .before .before .before .before .before .before .before .before .before in
-    let s = c .before .before .before .before .before .before .before .before .before .before .before .before .before .before in
-    let a = s .args in
-    let i = c .before .before .before .before .before .before .before .before .less in
-    let st = c .before .before .before .before .before .stride-at in
-    let k = c .before .leaf-size in
-    let g = l .loop .inv in
-    ended-short (now (a .keys)) (now (a .values)) (a .ll) (stateOf (a .start .nodes) (a .start .len) Absent 0 0 (a .from)) (now (a .out)) (set (l .loop .inners .nodes) (i .result) (st .result .node)) (l .loop .inners .len) (st .result .child) (st .result .count) (st .result .next) (st .result .at) (st .last .0) (strode-of (c .before)) (omega (arith, g .few)) (s .pre .0) (st .ensures .0 .0) (k .result) (k .ensures) (c .if2 .taken)
-
--- src/lib.rt:939:13
-leaf-of-requires : tie.Need-leaf-of-requires Inv-loop μ-loop
-leaf-of-requires c κs =
-    let l = c .before .before .before .before .before .before .before .before .before .before in
-    let s = c .before .before .before .before .before .before .before .before .before .before .before .before .before .before in
-    let a = s .args in
-    let i = c .before .before .before .before .before .before .before .before .less in
-    let st = c .before .before .before .before .before .stride-at in
-    let k = c .before .leaf-size in
-    let g = l .loop .inv in
-    let q = c .if2 .left in
-    ((omega (arith, st .ensures .0), omega (arith, st .ensures .0, s .pre .0)), k .ensures .0 .1)
-
--- src/lib.rt:940:13
-shut-leaf-requires : tie.Need-shut-leaf-requires Inv-loop μ-loop
-shut-leaf-requires c κs = search needs
-
--- src/lib.rt:942:20
-add-seen : tie.Need-add-seen Inv-loop μ-loop
-add-seen c =
-    let l = c .before .before .before .before .before .before .before .before .before .before .before .before .before .before .before .before in
+    let l = c .before .before .before .before .before .before .before .before .before .before .before .before .before .before .before in
     let s = c .before .before .before .before .before .before .before .before .before .before .before .before .before .before .before .before .before .before .before .before in
     let a = s .args in
-    let i = c .before .before .before .before .before .before .before .before .before .before .before .before .before .before .less in
-    let st = c .before .before .before .before .before .before .before .before .before .before .before .stride-at in
-    let k = c .before .before .before .before .before .before .before .leaf-size in
-    let g = l .loop .inv in
-    let q = c .before .before .before .before .before .before .if2 .left in
-    omega (arith, st .ensures .0, s .good)
+    let i = c .before .before .before .before .before .before .before .before .before .before .before .before .before .less in
+    let st = c .before .before .before .before .before .before .before .before .before .before .stride-at in
+    let ns = set (l .loop .inners .nodes) (i .result) (st .result .node) in
+    let cn = c .before .before .before .before .close-nodes in
+    let g : Goes (now (a .keys)) (now (a .values)) (a .ll) (stateOf (a .start .nodes) (a .start .len) Absent 0 0 (a .from)) (now (a .out)) (stateOf ns (l .loop .inners .len) (st .result .here .child) (st .result .here .count) (st .result .here .next) (st .result .here .at)) (st .last .0) =
+    going-strode (now (a .keys)) (now (a .values)) (a .ll) (stateOf (a .start .nodes) (a .start .len) Absent 0 0 (a .from)) (now (a .out)) (l .loop .inners) (l .loop .here .child) (l .loop .here .count) (l .loop .here .next) (l .loop .here .at) (l .loop .below) (l .loop .out) (l .loop .inv) (omega (arith, c .before .before .before .before .before .before .before .before .before .before .before .before .before .before .if1 .left)) (i .result) (i .ensures)
+    (getD (l .loop .inners .nodes) (i .result) noInner) refl (st .result) (st .last .0) (st .ensures .1) in
+    let u : Turns (now (a .keys)) (now (a .values)) (a .ll) ns (l .loop .inners .len) (st .result .here) (st .last .0) Short (cn .last .0) =
+    subst (λ (t : Turn). Turns (now (a .keys)) (now (a .values)) (a .ll) ns (l .loop .inners .len) (st .result .here) (st .last .0) t (cn .last .0)) (c .enum-told .given .1) (cn .ensures) in
+    ended-turn (now (a .keys)) (now (a .values)) (a .ll) (stateOf (a .start .nodes) (a .start .len) Absent 0 0 (a .from)) (now (a .out)) ns (l .loop .inners .len) (st .result .here) (st .last .0) (cn .last .0) g (omega (arith, l .loop .inv .few)) (s .pre .0) (st .ensures .0 .0) u
 
--- src/lib.rt:943:69
-add-cross-at : tie.Need-add-cross-at Inv-loop μ-loop
-add-cross-at c =
-    let l = c .before .before .before .before .before .before .before .before .before .before .before .before .before .before .before .before .before in
-    let s = c .before .before .before .before .before .before .before .before .before .before .before .before .before .before .before .before .before .before .before .before .before in
-    let a = s .args in
-    let i = c .before .before .before .before .before .before .before .before .before .before .before .before .before .before .before .less in
-    let st = c .before .before .before .before .before .before .before .before .before .before .before .before .stride-at in
-    let k = c .before .before .before .before .before .before .before .before .leaf-size in
-    let g = l .loop .inv in
-    let q = c .before .before .before .before .before .before .before .if2 .left in
-    omega (arith, st .ensures .0, s .good)
-
--- src/lib.rt:943:13
-cross-at-requires : tie.Need-cross-at-requires Inv-loop μ-loop
-cross-at-requires c κs =
-    let l = c .before .before .before .before .before .before .before .before .before .before .before .before .before .before .before .before .before in
-    let s = c .before .before .before .before .before .before .before .before .before .before .before .before .before .before .before .before .before .before .before .before .before in
-    let a = s .args in
-    let i = c .before .before .before .before .before .before .before .before .before .before .before .before .before .before .before .less in
-    let st = c .before .before .before .before .before .before .before .before .before .before .before .before .stride-at in
-    let k = c .before .before .before .before .before .before .before .before .leaf-size in
-    let g = l .loop .inv in
-    let q = c .before .before .before .before .before .before .before .if2 .left in
-    (omega (arith, g .few), omega (arith, st .ensures .0))
-
--- src/lib.rt:946:13
-rise-requires : tie.Need-rise-requires Inv-loop μ-loop
-rise-requires c κs =
-    let l = c .before .before .before .before .before .before .before .before .before .before .before .before .before .before .before .before .before .before .before .before .before in
-    let s = c .before .before .before .before .before .before .before .before .before .before .before .before .before .before .before .before .before .before .before .before .before .before .before .before .before in
-    let a = s .args in
-    let i = c .before .before .before .before .before .before .before .before .before .before .before .before .before .before .before .before .before .before .before .less in
-    let st = c .before .before .before .before .before .before .before .before .before .before .before .before .before .before .before .before .stride-at in
-    let k = c .before .before .before .before .before .before .before .before .before .before .before .before .leaf-size in
-    let lf = c .before .before .before .before .before .before .before .before .before .before .leaf-of in
-    let sh = c .before .before .before .before .before .before .before .before .shut-leaf in
-    let x = c .before .before .before .cross-at in
-    let g = l .loop .inv in
-    (omega (arith, g .few), x .ensures .0 .0)
-
--- src/lib.rt:909:5
 loop-less-2 : tie.Need-loop-less-2 Inv-loop μ-loop
 loop-less-2 c =
-    let f = facts-of (c .before) in
-    omega (arith, f .0, f .1)
+    let l = c .before .before .before .before .before .before .before .before .before .before .before .before .before .before .before .before .before .before .before in
+    let s = c .before .before .before .before .before .before .before .before .before .before .before .before .before .before .before .before .before .before .before .before .before .before .before .before in
+    let a = s .args in
+    let i = c .before .before .before .before .before .before .before .before .before .before .before .before .before .before .before .before .before .less in
+    let st = c .before .before .before .before .before .before .before .before .before .before .before .before .before .before .stride-at in
+    let ns = set (l .loop .inners .nodes) (i .result) (st .result .node) in
+    let cn = c .before .before .before .before .before .before .before .before .close-nodes in
+    let r = c .before .before .before .before .r .given .0 .0 in
+    let u : Turns (now (a .keys)) (now (a .values)) (a .ll) (set (l .loop .inners .nodes) (i .result) (st .result .node)) (l .loop .inners .len) (st .result .here) (st .last .0) (Up r) (cn .last .0) =
+    subst (λ (t : Turn). Turns (now (a .keys)) (now (a .values)) (a .ll) (set (l .loop .inners .nodes) (i .result) (st .result .node)) (l .loop .inners .len) (st .result .here) (st .last .0) t (cn .last .0)) (c .before .before .before .before .r .given .1) (cn .ensures) in
+    omega (arith, u .0, st .ensures .0)
 
--- src/lib.rt:909:5
 loop-again-2 : tie.Need-loop-again-2 Inv-loop μ-loop
 loop-again-2 c =
-    let l = c .before .before .before .before .before .before .before .before .before .before .before .before .before .before .before .before .before .before .before .before .before .before .before .before .before in
+    let l = c .before .before .before .before .before .before .before .before .before .before .before .before .before .before .before .before .before .before .before in
+    let s = c .before .before .before .before .before .before .before .before .before .before .before .before .before .before .before .before .before .before .before .before .before .before .before .before in
+    let a = s .args in
+    let i = c .before .before .before .before .before .before .before .before .before .before .before .before .before .before .before .before .before .less in
+    let st = c .before .before .before .before .before .before .before .before .before .before .before .before .before .before .stride-at in
+    let ns = set (l .loop .inners .nodes) (i .result) (st .result .node) in
+    let cn = c .before .before .before .before .before .before .before .before .close-nodes in
+    let g : Goes (now (a .keys)) (now (a .values)) (a .ll) (stateOf (a .start .nodes) (a .start .len) Absent 0 0 (a .from)) (now (a .out)) (stateOf ns (l .loop .inners .len) (st .result .here .child) (st .result .here .count) (st .result .here .next) (st .result .here .at)) (st .last .0) =
+    going-strode (now (a .keys)) (now (a .values)) (a .ll) (stateOf (a .start .nodes) (a .start .len) Absent 0 0 (a .from)) (now (a .out)) (l .loop .inners) (l .loop .here .child) (l .loop .here .count) (l .loop .here .next) (l .loop .here .at) (l .loop .below) (l .loop .out) (l .loop .inv) (omega (arith, c .before .before .before .before .before .before .before .before .before .before .before .before .before .before .before .before .before .before .if1 .left)) (i .result) (i .ensures)
+    (getD (l .loop .inners .nodes) (i .result) noInner) refl (st .result) (st .last .0) (st .ensures .1) in
+    let r = c .before .before .before .before .r .given .0 .0 in
+    let u : Turns (now (a .keys)) (now (a .values)) (a .ll) ns (l .loop .inners .len) (st .result .here) (st .last .0) (Up r) (cn .last .0) =
+    subst (λ (t : Turn). Turns (now (a .keys)) (now (a .values)) (a .ll) ns (l .loop .inners .len) (st .result .here) (st .last .0) t (cn .last .0)) (c .before .before .before .before .r .given .1) (cn .ensures) in
+    let up = goes-then (now (a .keys)) (now (a .values)) (a .ll) (stateOf (a .start .nodes) (a .start .len) Absent 0 0 (a .from)) _ _ (now (a .out)) (st .last .0) _ g (u .1 .1) in
+    let long = cn .kept .0 ∙ st .kept .0 ∙ l .loop .inv .long in
+    let five = length-set (l .loop .inners .nodes) (i .result) (st .result .node) ∙ l .loop .inv .five in
+    let z : l .loop .below ≡ 0 = omega (arith, c .before .before .before .before .before .before .before .before .before .before .before .before .before .before .before .before .before .before .if1 .left) in
+    going-closed (now (a .keys)) (now (a .values)) (a .ll) (stateOf (a .start .nodes) (a .start .len) Absent 0 0 (a .from)) (now (a .out)) ns (r .rank) (r .top - r .rank) (r .here .child) (r .here .count) (r .here .next) (r .here .next) (r .here .at) (l .loop .below) (cn .last .0) up (c .if2 .taken) z refl five (u .0 .1 .0 .1) (u .0 .1 .1) long
+
+same-length-2 : tie.Need-same-length-2 Inv-loop μ-loop
+same-length-2 c = c .before .before .before .before .before .before .before .before .before .before .before .close-nodes .kept .0 ∙ c .before .before .before .before .before .before .before .before .before .before .before .before .before .before .before .before .before .stride-at .kept .0 ∙ c .before .before .before .before .before .before .before .before .before .before .before .before .before .before .before .before .before .before .before .before .before .before .loop .inv .long
+
+returns-2 : tie.Need-returns-2 Inv-loop μ-loop
+returns-2 c =
+    let l = c .before .before .before .before .before .before .before .before .before .before .before .before .before .before .before .before .before .before .before .before .before .before in
+    let s = c .before .before .before .before .before .before .before .before .before .before .before .before .before .before .before .before .before .before .before .before .before .before .before .before .before .before .before in
+    let a = s .args in
+    let i = c .before .before .before .before .before .before .before .before .before .before .before .before .before .before .before .before .before .before .before .before .less in
+    let st = c .before .before .before .before .before .before .before .before .before .before .before .before .before .before .before .before .before .stride-at in
+    let ns = set (l .loop .inners .nodes) (i .result) (st .result .node) in
+    let cn = c .before .before .before .before .before .before .before .before .before .before .before .close-nodes in
+    let g : Goes (now (a .keys)) (now (a .values)) (a .ll) (stateOf (a .start .nodes) (a .start .len) Absent 0 0 (a .from)) (now (a .out)) (stateOf ns (l .loop .inners .len) (st .result .here .child) (st .result .here .count) (st .result .here .next) (st .result .here .at)) (st .last .0) =
+    going-strode (now (a .keys)) (now (a .values)) (a .ll) (stateOf (a .start .nodes) (a .start .len) Absent 0 0 (a .from)) (now (a .out)) (l .loop .inners) (l .loop .here .child) (l .loop .here .count) (l .loop .here .next) (l .loop .here .at) (l .loop .below) (l .loop .out) (l .loop .inv) (omega (arith, c .before .before .before .before .before .before .before .before .before .before .before .before .before .before .before .before .before .before .before .before .before .if1 .left)) (i .result) (i .ensures)
+    (getD (l .loop .inners .nodes) (i .result) noInner) refl (st .result) (st .last .0) (st .ensures .1) in
+    let r = c .before .before .before .before .before .before .before .r .given .0 .0 in
+    let u : Turns (now (a .keys)) (now (a .values)) (a .ll) ns (l .loop .inners .len) (st .result .here) (st .last .0) (Up r) (cn .last .0) =
+    subst (λ (t : Turn). Turns (now (a .keys)) (now (a .values)) (a .ll) ns (l .loop .inners .len) (st .result .here) (st .last .0) t (cn .last .0)) (c .before .before .before .before .before .before .before .r .given .1) (cn .ensures) in
+    let up = goes-then (now (a .keys)) (now (a .values)) (a .ll) (stateOf (a .start .nodes) (a .start .len) Absent 0 0 (a .from)) _ _ (now (a .out)) (st .last .0) _ g (u .1 .1) in
+    let long = cn .kept .0 ∙ st .kept .0 ∙ l .loop .inv .long in
+    let five = length-set (l .loop .inners .nodes) (i .result) (st .result .node) ∙ l .loop .inv .five in
+    let en = c .before .before .entry-at in
+    ended-low (now (a .keys)) (now (a .values)) (a .ll) (stateOf (a .start .nodes) (a .start .len) Absent 0 0 (a .from)) (now (a .out)) ns (r .rank) (r .top - r .rank) (r .here .child) (r .here .count) (r .here .next) (r .here .next) (r .here .at) (cn .last .0) up (c .before .before .before .if2 .left) refl (u .1 .0) (sym (en .ensures) ∙ c .enum-told2 .given .1)
+
+sub-j : tie.Need-sub-j Inv-loop μ-loop
+sub-j c = omega (arith, c .before .before .before .before .before .if2 .left)
+
+mul-lowest : tie.Need-mul-lowest Inv-loop μ-loop
+mul-lowest c =
+    let l = c .before .before .before .before .before .before .before .before .before .before .before .before .before .before .before .before .before .before .before .before .before .before .before .before in
     let s = c .before .before .before .before .before .before .before .before .before .before .before .before .before .before .before .before .before .before .before .before .before .before .before .before .before .before .before .before .before in
+    let a = s .args in
+    let i = c .before .before .before .before .before .before .before .before .before .before .before .before .before .before .before .before .before .before .before .before .before .before .less in
+    let st = c .before .before .before .before .before .before .before .before .before .before .before .before .before .before .before .before .before .before .before .stride-at in
+    let ns = set (l .loop .inners .nodes) (i .result) (st .result .node) in
+    let cn = c .before .before .before .before .before .before .before .before .before .before .before .before .before .close-nodes in
+    let r = c .before .before .before .before .before .before .before .before .before .r .given .0 .0 in
+    let u : Turns (now (a .keys)) (now (a .values)) (a .ll) ns (l .loop .inners .len) (st .result .here) (st .last .0) (Up r) (cn .last .0) =
+    subst (λ (t : Turn). Turns (now (a .keys)) (now (a .values)) (a .ll) ns (l .loop .inners .len) (st .result .here) (st .last .0) t (cn .last .0)) (c .before .before .before .before .before .before .before .before .before .r .given .1) (cn .ensures) in
+    omega (arith, u .0 .0, l .loop .inv .few, c .before .before .before .before .before .if2 .left)
+
+element-copy-out-lowest : tie.Need-element-copy-out-lowest Inv-loop μ-loop
+element-copy-out-lowest c =
+    let l = c .before .before .before .before .before .before .before .before .before .before .before .before .before .before .before .before .before .before .before .before .before .before .before .before in
+    let s = c .before .before .before .before .before .before .before .before .before .before .before .before .before .before .before .before .before .before .before .before .before .before .before .before .before .before .before .before .before in
+    let a = s .args in
+    let i = c .before .before .before .before .before .before .before .before .before .before .before .before .before .before .before .before .before .before .before .before .before .before .less in
+    let st = c .before .before .before .before .before .before .before .before .before .before .before .before .before .before .before .before .before .before .before .stride-at in
+    let ns = set (l .loop .inners .nodes) (i .result) (st .result .node) in
+    let cn = c .before .before .before .before .before .before .before .before .before .before .before .before .before .close-nodes in
+    let r = c .before .before .before .before .before .before .before .before .before .r .given .0 .0 in
+    let u : Turns (now (a .keys)) (now (a .values)) (a .ll) ns (l .loop .inners .len) (st .result .here) (st .last .0) (Up r) (cn .last .0) =
+    subst (λ (t : Turn). Turns (now (a .keys)) (now (a .values)) (a .ll) ns (l .loop .inners .len) (st .result .here) (st .last .0) t (cn .last .0)) (c .before .before .before .before .before .before .before .before .before .r .given .1) (cn .ensures) in
+    omega (arith, u .0 .0, l .loop .inv .few, c .before .before .before .before .before .if2 .left)
+
+push-requires : tie.Need-push-requires Inv-loop μ-loop
+push-requires c κs =
+    let l = c .before .before .before .before .before .before .before .before .before .before .before .before .before .before .before .before .before .before .before .before .before .before .before .before .before in
+    let s = c .before .before .before .before .before .before .before .before .before .before .before .before .before .before .before .before .before .before .before .before .before .before .before .before .before .before .before .before .before .before in
     let a = s .args in
     let i = c .before .before .before .before .before .before .before .before .before .before .before .before .before .before .before .before .before .before .before .before .before .before .before .less in
     let st = c .before .before .before .before .before .before .before .before .before .before .before .before .before .before .before .before .before .before .before .before .stride-at in
-    let k = c .before .before .before .before .before .before .before .before .before .before .before .before .before .before .before .before .leaf-size in
-    let lf = c .before .before .before .before .before .before .before .before .before .before .before .before .before .before .leaf-of in
-    let sh = c .before .before .before .before .before .before .before .before .before .before .before .before .shut-leaf in
-    let x = c .before .before .before .before .before .before .before .cross-at in
-    let r = c .before .before .before .rise in
-    let g = l .loop .inv in
-    let f = facts-of (c .before) in
-    let z : r .result .rank ≡ 0 = c .if3 .taken in
-    let b : l .loop .below ≡ 0 = omega (arith, c .before .before .before .before .before .before .before .before .before .before .before .before .before .before .before .before .before .before .before .before .before .before .before .before .if1 .left) in
-    going-closed (now (a .keys)) (now (a .values)) (a .ll) (stateOf (a .start .nodes) (a .start .len) Absent 0 0 (a .from)) (now (a .out)) (set (l .loop .inners .nodes) (i .result) (st .result .node)) (r .result .rank) (x .result .rank - r .result .rank) (r .result .child) (st .result .count + k .result) (x .result .next) (r .result .next) (r .result .at) (l .loop .below) (r .last .0)
-    (main-of (c .before)) z b (r .ensures .0 .1) (length-set (l .loop .inners .nodes) (i .result) (st .result .node) ∙ g .five) (f .0 .1) (f .1 .0) (c .before .before .before .rise .kept .0 ∙ c .before .before .before .before .before .before .before .cross-at .kept .0 ∙ c .before .before .before .before .before .before .before .before .before .before .before .before .shut-leaf .kept .0 ∙ c .before .before .before .before .before .before .before .before .before .before .before .before .before .before .before .before .before .before .before .before .stride-at .kept .0 ∙ c .before .before .before .before .before .before .before .before .before .before .before .before .before .before .before .before .before .before .before .before .before .before .before .before .before .loop .inv .long)
+    let ns = set (l .loop .inners .nodes) (i .result) (st .result .node) in
+    let cn = c .before .before .before .before .before .before .before .before .before .before .before .before .before .before .close-nodes in
+    let r = c .before .before .before .before .before .before .before .before .before .before .r .given .0 .0 in
+    let u : Turns (now (a .keys)) (now (a .values)) (a .ll) ns (l .loop .inners .len) (st .result .here) (st .last .0) (Up r) (cn .last .0) =
+    subst (λ (t : Turn). Turns (now (a .keys)) (now (a .values)) (a .ll) ns (l .loop .inners .len) (st .result .here) (st .last .0) t (cn .last .0)) (c .before .before .before .before .before .before .before .before .before .before .r .given .1) (cn .ensures) in
+    u .1 .0 (omega (arith, c .before .before .before .before .before .before .if2 .left))
 
--- src/lib.rt:958:28
-entry-at-requires : tie.Need-entry-at-requires Inv-loop μ-loop
-entry-at-requires c κs = search needs
+mul-grown : tie.Need-mul-grown Inv-loop μ-loop
+mul-grown c =
+    let l = c .before .before .before .before .before .before .before .before .before .before .before .before .before .before .before .before .before .before .before .before .before .before .before .before .before .before in
+    let s = c .before .before .before .before .before .before .before .before .before .before .before .before .before .before .before .before .before .before .before .before .before .before .before .before .before .before .before .before .before .before .before in
+    let a = s .args in
+    let i = c .before .before .before .before .before .before .before .before .before .before .before .before .before .before .before .before .before .before .before .before .before .before .before .before .less in
+    let st = c .before .before .before .before .before .before .before .before .before .before .before .before .before .before .before .before .before .before .before .before .before .stride-at in
+    let ns = set (l .loop .inners .nodes) (i .result) (st .result .node) in
+    let cn = c .before .before .before .before .before .before .before .before .before .before .before .before .before .before .before .close-nodes in
+    let r = c .before .before .before .before .before .before .before .before .before .before .before .r .given .0 .0 in
+    let u : Turns (now (a .keys)) (now (a .values)) (a .ll) ns (l .loop .inners .len) (st .result .here) (st .last .0) (Up r) (cn .last .0) =
+    subst (λ (t : Turn). Turns (now (a .keys)) (now (a .values)) (a .ll) ns (l .loop .inners .len) (st .result .here) (st .last .0) t (cn .last .0)) (c .before .before .before .before .before .before .before .before .before .before .before .r .given .1) (cn .ensures) in
+    omega (arith, u .0 .0, l .loop .inv .few, c .before .before .before .before .before .before .before .if2 .left)
 
--- src/lib.rt:958:23
-enum-known-e : tie.Need-enum-known-e Inv-loop μ-loop
-enum-known-e c = search needs
+element-set-from-grown : tie.Need-element-set-from-grown Inv-loop μ-loop
+element-set-from-grown c =
+    let l = c .before .before .before .before .before .before .before .before .before .before .before .before .before .before .before .before .before .before .before .before .before .before .before .before .before .before in
+    let s = c .before .before .before .before .before .before .before .before .before .before .before .before .before .before .before .before .before .before .before .before .before .before .before .before .before .before .before .before .before .before .before in
+    let a = s .args in
+    let i = c .before .before .before .before .before .before .before .before .before .before .before .before .before .before .before .before .before .before .before .before .before .before .before .before .less in
+    let st = c .before .before .before .before .before .before .before .before .before .before .before .before .before .before .before .before .before .before .before .before .before .stride-at in
+    let ns = set (l .loop .inners .nodes) (i .result) (st .result .node) in
+    let cn = c .before .before .before .before .before .before .before .before .before .before .before .before .before .before .before .close-nodes in
+    let r = c .before .before .before .before .before .before .before .before .before .before .before .r .given .0 .0 in
+    let u : Turns (now (a .keys)) (now (a .values)) (a .ll) ns (l .loop .inners .len) (st .result .here) (st .last .0) (Up r) (cn .last .0) =
+    subst (λ (t : Turn). Turns (now (a .keys)) (now (a .values)) (a .ll) ns (l .loop .inners .len) (st .result .here) (st .last .0) t (cn .last .0)) (c .before .before .before .before .before .before .before .before .before .before .before .r .given .1) (cn .ensures) in
+    omega (arith, u .0 .0, l .loop .inv .few, c .before .before .before .before .before .before .before .if2 .left)
 
--- src/lib.rt:959:13
-enum-told : tie.Need-enum-told Inv-loop μ-loop
-enum-told c = search needs
-
--- src/lib.rt:959:13
-same-length-2 : tie.Need-same-length-2 Inv-loop μ-loop
-same-length-2 c = c .before .before .before .before .before .before .rise .kept .0 ∙ c .before .before .before .before .before .before .before .before .before .before .cross-at .kept .0 ∙ c .before .before .before .before .before .before .before .before .before .before .before .before .before .before .before .shut-leaf .kept .0 ∙ c .before .before .before .before .before .before .before .before .before .before .before .before .before .before .before .before .before .before .before .before .before .before .before .stride-at .kept .0 ∙ c .before .before .before .before .before .before .before .before .before .before .before .before .before .before .before .before .before .before .before .before .before .before .before .before .before .before .before .before .loop .inv .long
-
--- src/lib.rt:959:13
-returns-2 : tie.Need-returns-2 Inv-loop μ-loop
-returns-2 c =
-    let l = c .before .before .before .before .before .before .before .before .before .before .before .before .before .before .before .before .before .before .before .before .before .before .before .before .before .before .before .before in
+sub-below-2 : tie.Need-sub-below-2 Inv-loop μ-loop
+sub-below-2 c =
+    let l = c .before .before .before .before .before .before .before .before .before .before .before .before .before .before .before .before .before .before .before .before .before .before .before .before .before .before .before in
     let s = c .before .before .before .before .before .before .before .before .before .before .before .before .before .before .before .before .before .before .before .before .before .before .before .before .before .before .before .before .before .before .before .before in
+    let a = s .args in
+    let i = c .before .before .before .before .before .before .before .before .before .before .before .before .before .before .before .before .before .before .before .before .before .before .before .before .before .less in
+    let st = c .before .before .before .before .before .before .before .before .before .before .before .before .before .before .before .before .before .before .before .before .before .before .stride-at in
+    let ns = set (l .loop .inners .nodes) (i .result) (st .result .node) in
+    let cn = c .before .before .before .before .before .before .before .before .before .before .before .before .before .before .before .before .close-nodes in
+    let r = c .before .before .before .before .before .before .before .before .before .before .before .before .r .given .0 .0 in
+    let u : Turns (now (a .keys)) (now (a .values)) (a .ll) ns (l .loop .inners .len) (st .result .here) (st .last .0) (Up r) (cn .last .0) =
+    subst (λ (t : Turn). Turns (now (a .keys)) (now (a .values)) (a .ll) ns (l .loop .inners .len) (st .result .here) (st .last .0) t (cn .last .0)) (c .before .before .before .before .before .before .before .before .before .before .before .before .r .given .1) (cn .ensures) in
+    omega (arith, u .0 .0, l .loop .inv .few, c .before .before .before .before .before .before .before .before .if2 .left)
+
+taken-requires : tie.Need-taken-requires Inv-loop μ-loop
+taken-requires c κs =
+    let l = c .before .before .before .before .before .before .before .before .before .before .before .before .before .before .before .before .before .before .before .before .before .before .before .before .before .before .before in
+    let s = c .before .before .before .before .before .before .before .before .before .before .before .before .before .before .before .before .before .before .before .before .before .before .before .before .before .before .before .before .before .before .before .before in
+    let a = s .args in
+    let i = c .before .before .before .before .before .before .before .before .before .before .before .before .before .before .before .before .before .before .before .before .before .before .before .before .before .less in
+    let st = c .before .before .before .before .before .before .before .before .before .before .before .before .before .before .before .before .before .before .before .before .before .before .stride-at in
+    let ns = set (l .loop .inners .nodes) (i .result) (st .result .node) in
+    let cn = c .before .before .before .before .before .before .before .before .before .before .before .before .before .before .before .before .close-nodes in
+    let r = c .before .before .before .before .before .before .before .before .before .before .before .before .r .given .0 .0 in
+    let u : Turns (now (a .keys)) (now (a .values)) (a .ll) ns (l .loop .inners .len) (st .result .here) (st .last .0) (Up r) (cn .last .0) =
+    subst (λ (t : Turn). Turns (now (a .keys)) (now (a .values)) (a .ll) ns (l .loop .inners .len) (st .result .here) (st .last .0) t (cn .last .0)) (c .before .before .before .before .before .before .before .before .before .before .before .before .r .given .1) (cn .ensures) in
+    omega (arith, u .0 .1, s .good)
+
+loop-less-3 : tie.Need-loop-less-3 Inv-loop μ-loop
+loop-less-3 c =
+    let l = c .before .before .before .before .before .before .before .before .before .before .before .before .before .before .before .before .before .before .before .before .before .before .before .before .before .before .before .before in
+    let s = c .before .before .before .before .before .before .before .before .before .before .before .before .before .before .before .before .before .before .before .before .before .before .before .before .before .before .before .before .before .before .before .before .before in
     let a = s .args in
     let i = c .before .before .before .before .before .before .before .before .before .before .before .before .before .before .before .before .before .before .before .before .before .before .before .before .before .before .less in
     let st = c .before .before .before .before .before .before .before .before .before .before .before .before .before .before .before .before .before .before .before .before .before .before .before .stride-at in
-    let k = c .before .before .before .before .before .before .before .before .before .before .before .before .before .before .before .before .before .before .before .leaf-size in
-    let lf = c .before .before .before .before .before .before .before .before .before .before .before .before .before .before .before .before .before .leaf-of in
-    let sh = c .before .before .before .before .before .before .before .before .before .before .before .before .before .before .before .shut-leaf in
-    let x = c .before .before .before .before .before .before .before .before .before .before .cross-at in
-    let r = c .before .before .before .before .before .before .rise in
-    let en = c .before .before .entry-at in
-    let g = l .loop .inv in
-    let z : (r .result .rank ≡ 0 → ⊥) = c .before .before .before .if3 .left in
-    ended-low (now (a .keys)) (now (a .values)) (a .ll) (stateOf (a .start .nodes) (a .start .len) Absent 0 0 (a .from)) (now (a .out)) (set (l .loop .inners .nodes) (i .result) (st .result .node)) (r .result .rank) (x .result .rank - r .result .rank) (r .result .child) (st .result .count + k .result) (x .result .next) (r .result .next) (r .result .at) (r .last .0)
-    (main-of (c .before .before .before .before)) z (r .ensures .0 .1) (r .ensures .1 .0) (sym (en .ensures) ∙ c .enum-told .given .1)
+    let ns = set (l .loop .inners .nodes) (i .result) (st .result .node) in
+    let cn = c .before .before .before .before .before .before .before .before .before .before .before .before .before .before .before .before .before .close-nodes in
+    let r = c .before .before .before .before .before .before .before .before .before .before .before .before .before .r .given .0 .0 in
+    let u : Turns (now (a .keys)) (now (a .values)) (a .ll) ns (l .loop .inners .len) (st .result .here) (st .last .0) (Up r) (cn .last .0) =
+    subst (λ (t : Turn). Turns (now (a .keys)) (now (a .values)) (a .ll) ns (l .loop .inners .len) (st .result .here) (st .last .0) t (cn .last .0)) (c .before .before .before .before .before .before .before .before .before .before .before .before .before .r .given .1) (cn .ensures) in
+    let en = c .before .before .before .before .before .before .before .before .entry-at in
+    let e = c .before .before .before .before .before .before .e in
+    let z : r .here .next < length (now (a .keys)) = got-below (now (a .keys)) (now (a .values)) (r .here .next) (e .given .0 .0) (sym (en .ensures) ∙ e .given .1) in
+    let tk = ap (λ (p : Place). p .next) (c .taken .ensures) in
+    omega (arith, u .0, st .ensures .0, l .loop .inv .few)
 
--- src/lib.rt:964:17
-sub-j : tie.Need-sub-j Inv-loop μ-loop
-sub-j c =
-    let z = c .before .before .before .before .if3 .left in
-    omega (arith, z)
-
--- src/lib.rt:965:22
-mul-lowest : tie.Need-mul-lowest Inv-loop μ-loop
-mul-lowest c =
-    let f = facts-of (c .before .before .before .before .before) in
-    let z = c .before .before .before .before .if3 .left in
-    omega (arith, f .1, z)
-
--- src/lib.rt:965:22
-element-copy-out-lowest : tie.Need-element-copy-out-lowest Inv-loop μ-loop
-element-copy-out-lowest c =
-    let f = facts-of (c .before .before .before .before .before) in
-    let z = c .before .before .before .before .if3 .left in
-    omega (arith, f .1, z)
-
--- src/lib.rt:966:13
-push-requires : tie.Need-push-requires Inv-loop μ-loop
-push-requires c κs =
-    let z = c .before .before .before .before .before .if3 .left in
-    c .before .before .before .before .before .before .before .before .rise .ensures .1 .0 (omega (arith, z))
-
--- src/lib.rt:967:9
-mul-grown : tie.Need-mul-grown Inv-loop μ-loop
-mul-grown c =
-    let f = facts-of (c .before .before .before .before .before .before .before) in
-    let z = c .before .before .before .before .before .before .if3 .left in
-    omega (arith, f .1, z)
-
--- src/lib.rt:967:9
-element-set-from-grown : tie.Need-element-set-from-grown Inv-loop μ-loop
-element-set-from-grown c =
-    let f = facts-of (c .before .before .before .before .before .before .before) in
-    let z = c .before .before .before .before .before .before .if3 .left in
-    omega (arith, f .1, z)
-
--- src/lib.rt:969:17
-sub-below-2 : tie.Need-sub-below-2 Inv-loop μ-loop
-sub-below-2 c =
-    let f = facts-of (c .before .before .before .before .before .before .before) in
-    omega (arith, f .1)
-
--- src/lib.rt:972:16
-add-next : tie.Need-add-next Inv-loop μ-loop
-add-next c =
-    let s = c .before .before .before .before .before .before .before .before .before .before .before .before .before .before .before .before .before .before .before .before .before .before .before .before .before .before .before .before .before .before .before .before .before .before .before in
-    let f = facts-of (c .before .before .before .before .before .before .before) in
-    omega (arith, f .0, s .good)
-
--- src/lib.rt:909:5
-loop-less-3 : tie.Need-loop-less-3 Inv-loop μ-loop
-loop-less-3 c =
-    let l = c .before .before .before .before .before .before .before .before .before .before .before .before .before .before .before .before .before .before .before .before .before .before .before .before .before .before .before .before .before .before .before in
-    let s = c .before .before .before .before .before .before .before .before .before .before .before .before .before .before .before .before .before .before .before .before .before .before .before .before .before .before .before .before .before .before .before .before .before .before .before in
-    let a = s .args in
-    let i = c .before .before .before .before .before .before .before .before .before .before .before .before .before .before .before .before .before .before .before .before .before .before .before .before .before .before .before .before .before .less in
-    let st = c .before .before .before .before .before .before .before .before .before .before .before .before .before .before .before .before .before .before .before .before .before .before .before .before .before .before .stride-at in
-    let k = c .before .before .before .before .before .before .before .before .before .before .before .before .before .before .before .before .before .before .before .before .before .before .leaf-size in
-    let lf = c .before .before .before .before .before .before .before .before .before .before .before .before .before .before .before .before .before .before .before .before .leaf-of in
-    let sh = c .before .before .before .before .before .before .before .before .before .before .before .before .before .before .before .before .before .before .shut-leaf in
-    let x = c .before .before .before .before .before .before .before .before .before .before .before .before .before .cross-at in
-    let r = c .before .before .before .before .before .before .before .before .before .rise in
-    let en = c .before .before .before .before .before .entry-at in
-    let g = l .loop .inv in
-    let f = facts-of (c .before .before .before .before .before .before .before) in
-    let z : r .result .next < length (now (a .keys)) = got-below (now (a .keys)) (now (a .values)) (r .result .next) (c .before .before .before .e .given .0 .0) (sym (en .ensures) ∙ c .before .before .before .e .given .1) in
-    omega (arith, f .0, f .1)
-
--- src/lib.rt:909:5
 loop-again-3 : tie.Need-loop-again-3 Inv-loop μ-loop
 loop-again-3 c =
-    let l = c .before .before .before .before .before .before .before .before .before .before .before .before .before .before .before .before .before .before .before .before .before .before .before .before .before .before .before .before .before .before .before in
-    let s = c .before .before .before .before .before .before .before .before .before .before .before .before .before .before .before .before .before .before .before .before .before .before .before .before .before .before .before .before .before .before .before .before .before .before .before in
+    let l = c .before .before .before .before .before .before .before .before .before .before .before .before .before .before .before .before .before .before .before .before .before .before .before .before .before .before .before .before in
+    let s = c .before .before .before .before .before .before .before .before .before .before .before .before .before .before .before .before .before .before .before .before .before .before .before .before .before .before .before .before .before .before .before .before .before in
     let a = s .args in
-    let i = c .before .before .before .before .before .before .before .before .before .before .before .before .before .before .before .before .before .before .before .before .before .before .before .before .before .before .before .before .before .less in
-    let st = c .before .before .before .before .before .before .before .before .before .before .before .before .before .before .before .before .before .before .before .before .before .before .before .before .before .before .stride-at in
-    let k = c .before .before .before .before .before .before .before .before .before .before .before .before .before .before .before .before .before .before .before .before .before .before .leaf-size in
-    let lf = c .before .before .before .before .before .before .before .before .before .before .before .before .before .before .before .before .before .before .before .before .leaf-of in
-    let sh = c .before .before .before .before .before .before .before .before .before .before .before .before .before .before .before .before .before .before .shut-leaf in
-    let x = c .before .before .before .before .before .before .before .before .before .before .before .before .before .cross-at in
-    let r = c .before .before .before .before .before .before .before .before .before .rise in
-    let en = c .before .before .before .before .before .entry-at in
-    let g = l .loop .inv in
-    let f = facts-of (c .before .before .before .before .before .before .before) in
-    let z : (r .result .rank ≡ 0 → ⊥) = c .before .before .before .before .before .before .if3 .left in
-    going-grown (now (a .keys)) (now (a .values)) (a .ll) (stateOf (a .start .nodes) (a .start .len) Absent 0 0 (a .from)) (now (a .out)) (set (l .loop .inners .nodes) (i .result) (st .result .node)) (r .result .rank) (x .result .rank - r .result .rank) (r .result .child) (st .result .count + k .result) (x .result .next) (r .result .next) (r .result .at) (r .last .0)
-    (main-of (c .before .before .before .before .before .before .before)) z (r .ensures .0 .1) (r .ensures .1 .0) (c .before .before .before .e .given .0 .0) (sym (en .ensures) ∙ c .before .before .before .e .given .1) (c .push .result) (c .push .ensures) (length-set (l .loop .inners .nodes) (i .result) (st .result .node) ∙ g .five) (omega (arith, f .1)) (f .1 .0) (c .before .before .before .before .before .before .before .before .before .rise .kept .0 ∙ c .before .before .before .before .before .before .before .before .before .before .before .before .before .cross-at .kept .0 ∙ c .before .before .before .before .before .before .before .before .before .before .before .before .before .before .before .before .before .before .shut-leaf .kept .0 ∙ c .before .before .before .before .before .before .before .before .before .before .before .before .before .before .before .before .before .before .before .before .before .before .before .before .before .before .stride-at .kept .0 ∙ c .before .before .before .before .before .before .before .before .before .before .before .before .before .before .before .before .before .before .before .before .before .before .before .before .before .before .before .before .before .before .before .loop .inv .long)
+    let i = c .before .before .before .before .before .before .before .before .before .before .before .before .before .before .before .before .before .before .before .before .before .before .before .before .before .before .less in
+    let st = c .before .before .before .before .before .before .before .before .before .before .before .before .before .before .before .before .before .before .before .before .before .before .before .stride-at in
+    let ns = set (l .loop .inners .nodes) (i .result) (st .result .node) in
+    let cn = c .before .before .before .before .before .before .before .before .before .before .before .before .before .before .before .before .before .close-nodes in
+    let g : Goes (now (a .keys)) (now (a .values)) (a .ll) (stateOf (a .start .nodes) (a .start .len) Absent 0 0 (a .from)) (now (a .out)) (stateOf ns (l .loop .inners .len) (st .result .here .child) (st .result .here .count) (st .result .here .next) (st .result .here .at)) (st .last .0) =
+    going-strode (now (a .keys)) (now (a .values)) (a .ll) (stateOf (a .start .nodes) (a .start .len) Absent 0 0 (a .from)) (now (a .out)) (l .loop .inners) (l .loop .here .child) (l .loop .here .count) (l .loop .here .next) (l .loop .here .at) (l .loop .below) (l .loop .out) (l .loop .inv) (omega (arith, c .before .before .before .before .before .before .before .before .before .before .before .before .before .before .before .before .before .before .before .before .before .before .before .before .before .before .before .if1 .left)) (i .result) (i .ensures)
+    (getD (l .loop .inners .nodes) (i .result) noInner) refl (st .result) (st .last .0) (st .ensures .1) in
+    let r = c .before .before .before .before .before .before .before .before .before .before .before .before .before .r .given .0 .0 in
+    let u : Turns (now (a .keys)) (now (a .values)) (a .ll) ns (l .loop .inners .len) (st .result .here) (st .last .0) (Up r) (cn .last .0) =
+    subst (λ (t : Turn). Turns (now (a .keys)) (now (a .values)) (a .ll) ns (l .loop .inners .len) (st .result .here) (st .last .0) t (cn .last .0)) (c .before .before .before .before .before .before .before .before .before .before .before .before .before .r .given .1) (cn .ensures) in
+    let up = goes-then (now (a .keys)) (now (a .values)) (a .ll) (stateOf (a .start .nodes) (a .start .len) Absent 0 0 (a .from)) _ _ (now (a .out)) (st .last .0) _ g (u .1 .1) in
+    let long = cn .kept .0 ∙ st .kept .0 ∙ l .loop .inv .long in
+    let five = length-set (l .loop .inners .nodes) (i .result) (st .result .node) ∙ l .loop .inv .five in
+    let en = c .before .before .before .before .before .before .before .before .entry-at in
+    let e = c .before .before .before .before .before .before .e in
+    let w = c .before .before .push in
+    rw (c .taken .ensures)
+    (going-grown (now (a .keys)) (now (a .values)) (a .ll) (stateOf (a .start .nodes) (a .start .len) Absent 0 0 (a .from)) (now (a .out)) ns (r .rank) (r .top - r .rank) (r .here .child) (r .here .count) (r .here .next) (r .here .next) (r .here .at) (cn .last .0) up (c .before .before .before .before .before .before .before .before .before .if2 .left) refl (u .1 .0)
+    (e .given .0 .0) (sym (en .ensures) ∙ e .given .1) (w .result) (w .ensures) five (omega (arith, u .0 .0, l .loop .inv .few)) (u .0 .1 .1) long)
 
 pub run-spec : {M : Type 1} → statement M
 run-spec =
@@ -453,35 +306,31 @@ run-spec =
     (tie.spec
     Inv-loop
     μ-loop
+    (search needs)
     loop-holds
-    new-requires
+    (search needs)
     mul-fresh
     element-set-from-fresh
     add-inners
     sub-below
     loop-less
     loop-again
-    less-requires
+    (search needs)
     mul-node
     element-copy-out-node
     stride-at-requires
     mul-held
     element-set-from-held
-    leaf-size-requires
-    sub-if2
+    close-nodes-requires
+    (search needs)
+    (search needs)
     same-length
     returns
-    leaf-of-requires
-    shut-leaf-requires
-    add-seen
-    add-cross-at
-    cross-at-requires
-    rise-requires
     loop-less-2
     loop-again-2
-    entry-at-requires
-    enum-known-e
-    enum-told
+    (search needs)
+    (search needs)
+    (search needs)
     same-length-2
     returns-2
     sub-j
@@ -491,6 +340,6 @@ run-spec =
     mul-grown
     element-set-from-grown
     sub-below-2
-    add-next
+    taken-requires
     loop-less-3
     loop-again-3)

@@ -1,5 +1,6 @@
-use mathlib.Core.Path.{_≡_, refl, sym, ap, _∙_}
-use Prim.Native.Nat.{ℕ, suc, _+_, _-_, _≤_, _<_}
+-- `builder::map::serialize_from_ordered_iter` meets its contract. Assumes nothing.
+use mathlib.Core.Path.{ap, _∙_}
+use Prim.Native.Nat.{_-_}
 use native.Mathlib.Omega.{arith}
 use denote.Ref.{now}
 use lib.ListN.{length}
@@ -9,15 +10,6 @@ use Rattle.builder.proofs.Whole.{depth-bounds, wrote-by}
 use borrow.Author.Needs.{needs}
 use Rattle.builder.proofs.map.serialize_from_ordered_iter.Statement.{statement}
 use Rattle.builder.proofs.map.serialize_from_ordered_iter.Tie as tie
-use Rattle.builder.proofs.map.serialize_from_ordered_iter.Reads as reads
-use Rattle.builder.proofs.map.serialize_from_ordered_iter.Lts as lts
-use Rattle.builder.proofs.map.run.Reads as run-reads
-use Rattle.builder.proofs.ser_vec.OpenInners.new.Reads as new-reads
-use Rattle.builder.proofs.size.depth_of.Reads as depth-of-reads
-use Rattle.builder.proofs.size.power_of_6.Reads as power-of-6-reads
-
-depth-of-requires : tie.Need-depth-of-requires
-depth-of-requires c κs = search needs
 
 power-of-6-requires : tie.Need-power-of-6-requires
 power-of-6-requires c κs = depth-bounds (length (now (c .before .before .before .before .args .keys))) (c .depth-of .result) (c .before .before .before .before .pre .0 .1) (c .before .before .before .before .pre .1 .0) (c .depth-of .ensures) .low
@@ -28,14 +20,8 @@ sub-ll c = let h = depth-bounds (length (now (c .before .before .before .before 
 sub-ll-2 : tie.Need-sub-ll-2
 sub-ll-2 c = let h = depth-bounds (length (now (c .before .before .before .before .before .args .keys))) (c .before .depth-of .result) (c .before .before .before .before .before .pre .0 .1) (c .before .before .before .before .before .pre .1 .0) (c .before .depth-of .ensures) in omega (arith, h .some, h .power, c .power-of-6 .ensures)
 
-new-requires : tie.Need-new-requires
-new-requires c κs = search needs
-
 run-requires : tie.Need-run-requires
 run-requires c κs = (c .before .before .before .before .before .before .before .pre .0 .0, depth-bounds (length (now (c .before .before .before .before .before .before .before .args .keys))) (c .before .before .before .depth-of .result) (c .before .before .before .before .before .before .before .pre .0 .1) (c .before .before .before .before .before .before .before .pre .1 .0) (c .before .before .before .depth-of .ensures) .low)
-
-same-length : tie.Need-same-length
-same-length c = search needs
 
 returns : tie.Need-returns
 returns c =
@@ -54,11 +40,11 @@ pub serialize-from-ordered-iter-spec : {M : Type 1} → statement M
 serialize-from-ordered-iter-spec =
     tie.close
     (tie.spec
-    depth-of-requires
+    (search needs)
     power-of-6-requires
     sub-ll
     sub-ll-2
-    new-requires
+    (search needs)
     run-requires
-    same-length
+    (search needs)
     returns)

@@ -1,54 +1,26 @@
+-- `builder::map::shut_leaf` meets its contract. Assumes nothing.
 use borrow.Author.Needs.{needs}
-use native.Mathlib.Omega.{arith}
-use mathlib.Core.Path.{_≡_, refl, sym, ap, _∙_}
-use mathlib.Core.List.{List, []}
-use mathlib.Core.Logic.{_⊎_, inl, inr}
-use Prim.Native.Nat.{ℕ, zero, suc, _+_, _-_, _≤_, _<_}
+use mathlib.Core.Path.{sym, _∙_}
+use Prim.Native.Nat.{_-_}
 use denote.Ref.{now}
-use lib.ListN.{length, getD}
-use Rattle.builder.specs.Leaves.{takes, entryOf, stateOf, Strides, Rises, Crosses, Roomy, Told, shutOf, outOf}
-use Rattle.builder.proofs.Leaves.{takes-step, takes-len, shut-none, shut-some, cross-by, rise-by, strides-none, strides-more}
-use Rattle.builder.specs.declared.inline_vec.OpenLeaf.{OpenLeaf}
-use Rattle.builder.specs.Nodes.{leafBytes, innerBytes}
-use Rattle.builder.specs.Machine.{climbS, transitS, fitOf}
-use Rattle.builder.proofs.Answers.{ends-within, transit-none}
-use Rattle.builder.proofs.Kept.{fill-next}
+use lib.ListN.{length}
+use Rattle.builder.proofs.Leaves.{shut-none, shut-some}
+use Rattle.builder.specs.Nodes.{leafBytes}
+use Rattle.builder.specs.Machine.{fitOf}
+use Rattle.builder.proofs.Answers.{ends-within}
 use Rattle.builder.proofs.map.shut_leaf.Statement.{statement}
 use Rattle.builder.proofs.map.shut_leaf.Tie as tie
-use Rattle.builder.proofs.map.shut_leaf.Reads as reads
-use Rattle.builder.proofs.map.shut_leaf.Lts as lts
-use Rattle.builder.proofs.map.close_leaf.Reads as close-leaf-reads
-use Rattle.builder.proofs.map.fits_at.Reads as fits-at-reads
 
--- src/lib.rt:717:25
-fits-at-requires : tie.Need-fits-at-requires
-fits-at-requires c κs = search needs
-
--- src/lib.rt:717:18
-enum-known-end : tie.Need-enum-known-end
-enum-known-end c = search needs
-
--- src/lib.rt:718:9
-enum-told : tie.Need-enum-told
-enum-told c = search needs
-
--- src/lib.rt:718:9
 returns : tie.Need-returns
 returns c =
     let a = c .before .before .before .before .args in
     shut-none (fitOf (length (now (a .out))) (a .at) 96) (now (a .out)) (leafBytes (a .leaf .entries) (a .leaf .len)) (a .child) (a .at) (sym (c .before .before .fits-at .ensures) ∙ c .enum-told .given .1)
 
--- src/lib.rt:720:5
 close-leaf-requires : tie.Need-close-leaf-requires
 close-leaf-requires c κs =
     let a = c .before .before .before .before .before .before .args in
     ends-within (length (now (a .out))) (a .at) 96 _ (sym (c .before .before .before .before .fits-at .ensures) ∙ c .before .before .end .given .1) .1
 
--- src/lib.rt:713:1
-same-length : tie.Need-same-length
-same-length c = search needs
-
--- src/lib.rt:713:1
 returns-2 : tie.Need-returns-2
 returns-2 c =
     let a = c .before .before .before .before .before .before .before .before .before .args in
@@ -58,10 +30,10 @@ pub shut-leaf-spec : {M : Type 1} → statement M
 shut-leaf-spec =
     tie.close
     (tie.spec
-    fits-at-requires
-    enum-known-end
-    enum-told
+    (search needs)
+    (search needs)
+    (search needs)
     returns
     close-leaf-requires
-    same-length
+    (search needs)
     returns-2)

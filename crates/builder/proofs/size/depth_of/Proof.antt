@@ -1,15 +1,13 @@
-use borrow.Author.Needs.{needs}
+-- `builder::size::depth_of` meets its contract. Assumes nothing.
 use native.Mathlib.Omega.{arith}
 use native.Mathlib.Nat.{sub-zero, zero-add}
-use mathlib.Core.Path.{_≡_, refl, sym, ap, _∙_}
-use Prim.Native.Nat.{ℕ, suc, _+_, _-_, _/_, _≤_, _<_}
+use mathlib.Core.Path.{_≡_, ap, _∙_}
+use Prim.Native.Nat.{ℕ, suc, _+_, _-_, _/_, _≤_}
 use Rattle.format.specs.Layout.{layout32}
 use Rattle.format.specs.Build.{logFrom}
 use Rattle.builder.proofs.Whole.{log-more, log-none, height-log}
 use Rattle.builder.proofs.size.depth_of.Statement.{statement}
 use Rattle.builder.proofs.size.depth_of.Tie as tie
-use Rattle.builder.proofs.size.depth_of.Reads as reads
-use Rattle.builder.proofs.size.depth_of.Lts as lts
 
 abbrev Inv-loop : tie.InvT-loop
 Inv-loop n m₀ d₀ m d = (d + logFrom layout32 (n - d) m ≡ logFrom layout32 n n) × (m + d ≤ n)

@@ -1,8 +1,6 @@
-use mathlib.Core.Path.{_≡_, refl, sym, ap, _∙_}
-use Prim.Native.Nat.{ℕ, suc, _+_, _-_, _≤_, _<_}
+-- `builder::size::end_of` meets its contract. Assumes nothing.
+use Prim.Native.Nat.{_-_, _≤_}
 use native.Mathlib.Omega.{arith}
-use denote.Ref.{now}
-use lib.ListN.{length}
 use lib.Dec.{lit≤}
 use Rattle.builder.proofs.Weights.{weight-small}
 use Rattle.builder.proofs.Whole.{depth-bounds, is-4, is-8, end-zero, end-more}
@@ -10,24 +8,12 @@ use Rattle.format.specs.Laws.Align.{zeros-lt}
 use borrow.Author.Needs.{needs}
 use Rattle.builder.proofs.size.end_of.Statement.{statement}
 use Rattle.builder.proofs.size.end_of.Tie as tie
-use Rattle.builder.proofs.size.end_of.Reads as reads
-use Rattle.builder.proofs.size.end_of.Lts as lts
-use Rattle.builder.proofs.size.depth_of.Reads as depth-of-reads
-use Rattle.builder.proofs.size.power_of_6.Reads as power-of-6-reads
-use Rattle.builder.proofs.size.start_of.Reads as start-of-reads
-use Rattle.builder.proofs.size.weight_of.Reads as weight-of-reads
 
 start-of-requires : tie.Need-start-of-requires
 start-of-requires c κs = (c .before .pre .1, (lit≤ tt, is-4))
 
-add-result : tie.Need-add-result
-add-result c = search needs
-
 returns : tie.Need-returns
 returns c = end-zero (c .before .before .args .n) (c .before .before .args .header) (c .start-of .result) (c .before .if1 .taken) (c .start-of .ensures)
-
-depth-of-requires : tie.Need-depth-of-requires
-depth-of-requires c κs = search needs
 
 power-of-6-requires : tie.Need-power-of-6-requires
 power-of-6-requires c κs = depth-bounds (c .before .before .args .n) (c .depth-of .result) (omega (arith, c .before .if1 .left)) (c .before .before .pre .0) (c .depth-of .ensures) .low
@@ -62,9 +48,9 @@ end-of-spec =
     tie.close
     (tie.spec
     start-of-requires
-    add-result
+    (search needs)
     returns
-    depth-of-requires
+    (search needs)
     power-of-6-requires
     start-of-requires-2
     sub-weight-of

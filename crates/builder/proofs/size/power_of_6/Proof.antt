@@ -1,10 +1,9 @@
+-- `builder::size::power_of_6` meets its contract. Assumes nothing.
 use native.Mathlib.Omega.{arith}
-use mathlib.Core.Path.{_≡_, refl, sym, ap, _∙_}
+use mathlib.Core.Path.{_≡_, refl, sym, ap}
 use Prim.Native.Nat.{ℕ, zero, suc, _^_, _≤_}
 use Rattle.builder.proofs.size.power_of_6.Statement.{statement}
 use Rattle.builder.proofs.size.power_of_6.Tie as tie
-use Rattle.builder.proofs.size.power_of_6.Reads as reads
-use Rattle.builder.proofs.size.power_of_6.Lts as lts
 
 returns : tie.Need-returns
 returns c = sym (ap (λ (k : ℕ). 6 ^ k) (c .match .keys1))

@@ -1,20 +1,10 @@
+-- `builder::size::weight_of` meets its contract. Assumes nothing.
 use borrow.Author.Needs.{needs}
 use native.Mathlib.Omega.{arith}
-use mathlib.Core.Path.{_≡_, refl, sym, ap, _∙_, subst}
-use mathlib.Core.List.{List, []}
-use mathlib.Core.Logic.{_⊎_, inl, inr}
-use Prim.Native.Nat.{ℕ, zero, suc, _+_, _-_, _≤_, _<_}
-use denote.Ref.{now}
-use lib.ListN.{length, getD}
-use native.Mathlib.Nat.{pow-suc}
-use Rattle.builder.specs.Size.{weight}
+use Prim.Native.Nat.{_-_}
 use Rattle.builder.proofs.Weights.{pow-small, weight-none, weight-some, weight-by}
 use Rattle.builder.proofs.size.weight_of.Statement.{statement}
 use Rattle.builder.proofs.size.weight_of.Tie as tie
-use Rattle.builder.proofs.size.weight_of.Reads as reads
-use Rattle.builder.proofs.size.weight_of.Lts as lts
-use Rattle.builder.proofs.size.least.Reads as least-reads
-use Rattle.builder.proofs.size.power_of_6.Reads as power-of-6-reads
 
 returns : tie.Need-returns
 returns c = weight-none (c .before .before .args .l) (c .before .before .args .m) (c .before .if1 .taken) (c .if2 .taken)
@@ -22,26 +12,14 @@ returns c = weight-none (c .before .before .args .l) (c .before .before .args .m
 returns-2 : tie.Need-returns-2
 returns-2 c = weight-some (c .before .before .args .l) (c .before .before .args .m) (c .before .if1 .taken) (c .if2 .left)
 
-sub-power-of-6 : tie.Need-sub-power-of-6
-sub-power-of-6 c = search needs
-
-power-of-6-requires : tie.Need-power-of-6-requires
-power-of-6-requires c κs = search needs
-
 mul-least : tie.Need-mul-least
 mul-least c = let h = pow-small (c .before .before .args .l - 1) (omega (arith, c .before .before .pre, c .before .if1 .left)) in omega (arith, h, c .power-of-6 .ensures)
-
-least-requires : tie.Need-least-requires
-least-requires c κs = search needs
 
 add-leaves : tie.Need-add-leaves
 add-leaves c = let h = pow-small (c .before .before .before .args .l - 1) (omega (arith, c .before .before .before .pre, c .before .before .if1 .left)) in omega (arith, h, c .before .power-of-6 .ensures, c .least .ensures)
 
 add-inners : tie.Need-add-inners
 add-inners c = let h = pow-small (c .before .before .before .args .l - 1) (omega (arith, c .before .before .before .pre, c .before .before .if1 .left)) in omega (arith, h, c .before .power-of-6 .ensures, c .least .ensures)
-
-sub-result : tie.Need-sub-result
-sub-result c = search needs
 
 add-result : tie.Need-add-result
 add-result c = let h = pow-small (c .before .before .before .args .l - 1) (omega (arith, c .before .before .before .pre, c .before .before .if1 .left)) in omega (arith, h, c .before .power-of-6 .ensures, c .least .ensures)
@@ -51,9 +29,6 @@ mul-result c = let h = pow-small (c .before .before .before .args .l - 1) (omega
 
 sub-result-2 : tie.Need-sub-result-2
 sub-result-2 c = let h = pow-small (c .before .before .before .args .l - 1) (omega (arith, c .before .before .before .pre, c .before .before .if1 .left)) in omega (arith, h, c .before .power-of-6 .ensures, c .least .ensures)
-
-add-result-2 : tie.Need-add-result-2
-add-result-2 c = search needs
 
 mul-result-2 : tie.Need-mul-result-2
 mul-result-2 c = let h = pow-small (c .before .before .before .args .l - 1) (omega (arith, c .before .before .before .pre, c .before .before .if1 .left)) in omega (arith, h, c .before .power-of-6 .ensures, c .least .ensures)
@@ -70,17 +45,17 @@ weight-of-spec =
     (tie.spec
     returns
     returns-2
-    sub-power-of-6
-    power-of-6-requires
+    (search needs)
+    (search needs)
     mul-least
-    least-requires
+    (search needs)
     add-leaves
     add-inners
-    sub-result
+    (search needs)
     add-result
     mul-result
     sub-result-2
-    add-result-2
+    (search needs)
     mul-result-2
     add-result-3
     returns-3)

@@ -1,15 +1,13 @@
+-- `builder::words::put_zeros` meets its contract. Assumes nothing.
 use borrow.Author.Needs.{needs}
 use mathlib.Core.Path.{_≡_, refl, sym, ap, _∙_}
-use Prim.Native.Nat.{ℕ, _+_, _-_, _≤_}
+use Prim.Native.Nat.{ℕ, _-_, _≤_}
 use native.Mathlib.Omega.{arith}
-use denote.Ref.{now}
 use lib.ListN.{length, replicate, length-set}
 use Rattle.format.specs.Bytes.{put}
 use Rattle.builder.proofs.Laws.{zeros-step}
 use Rattle.builder.proofs.words.put_zeros.Statement.{statement}
 use Rattle.builder.proofs.words.put_zeros.Tie as tie
-use Rattle.builder.proofs.words.put_zeros.Reads as reads
-use Rattle.builder.proofs.words.put_zeros.Lts as lts
 
 -- What is left to write is what there was to write.
 abbrev Inv-loop : tie.InvT-loop
@@ -33,9 +31,6 @@ loop-less c = omega arith
 loop-again : tie.Need-loop-again Inv-loop μ-loop
 loop-again c = ((omega arith, omega arith), (simp length-set (omega arith), zeros-step _ _ _ (c .loop-test .taken) ∙ c .before .loop .inv .1 .1))
 
-same-length : tie.Need-same-length Inv-loop μ-loop
-same-length c = search needs
-
 returns : tie.Need-returns Inv-loop μ-loop
 returns c =
     let e : c .before .before .args .to - c .before .loop .i ≡ 0 = omega arith in
@@ -52,5 +47,5 @@ put-zeros-spec =
     add-i
     loop-less
     loop-again
-    same-length
+    (search needs)
     returns)
