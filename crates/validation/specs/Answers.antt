@@ -1,13 +1,24 @@
 -- What the answers of the check's parts say in the terms of the definitions. Assumes nothing: these are definitions.
+use Prim.Native.Nat.{ℕ, _-_}
+use mathlib.Core.Path.{_≡_}
+use mathlib.Core.List.{List}
+use Rattle.format.specs.Layout.{layout32, headSize, nodeAlign}
 use Rattle.format.specs.Refusal.{number}
-use Rattle.format.specs.Check.{Checked, accepted, refused}
+use Rattle.format.specs.Node.{inner}
+use Rattle.format.specs.Check.{Checked, accepted, refused, enter, checkNode}
+use Rattle.format.specs.Laws.Entered.{entered}
+use Rattle.format.specs.declared.Position.{Position}
 use Rattle.format.specs.declared.Refusal.the-variants.{InvalidSubtreePointer}
 use Rattle.format.specs.declared.CheckAnswer.{CheckAnswer}
 use Rattle.format.specs.declared.CheckAnswer.the-variants as archive
 use Rattle.validation.specs.declared.archive.PtrAnswer.{PtrAnswer}
 use Rattle.validation.specs.declared.archive.PtrAnswer.the-variants as ptr
+use Rattle.validation.specs.declared.archive.SubtreeRange.{SubtreeRange}
 use Rattle.validation.specs.declared.check.NodeAnswer.{NodeAnswer}
 use Rattle.validation.specs.declared.check.NodeAnswer.the-variants as node
+use Rattle.validation.specs.declared.check.Entered.{Entered}
+use Rattle.validation.specs.declared.check.Entered.the-variants as into
+use Rattle.validation.specs.Subtree.{Held}
 
 -- A place's answer, and then a.
 abbrev pub ptrOf : PtrAnswer → Checked → Checked
@@ -26,3 +37,16 @@ refusedPtr ptr.Inside = node.Refused InvalidSubtreePointer
 abbrev pub refusedNode : NodeAnswer → CheckAnswer
 refusedNode (node.Refused r) = archive.Refused r
 refusedNode (node.Entries n end) = archive.Refused InvalidSubtreePointer
+
+abbrev pub enteredLeaf : NodeAnswer → Entered
+enteredLeaf (node.Refused r) = into.Refused r
+enteredLeaf (node.Entries n end) = into.Leaf n end
+
+-- What is known of the node that a field leads to: its answer, or that it is an inner node whose first bytes stand in their place.
+abbrev pub Enters : List ℕ → SubtreeRange → ℕ → Position → Entered → Type 0
+Enters s range depth field (into.Refused r) = refused (number r) ≡ checkNode layout32 s (depth - 1) (range .end .0) (range .start .0) (field .0)
+Enters s range depth field (into.Leaf n end) = accepted n (end .0) ≡ checkNode layout32 s (depth - 1) (range .end .0) (range .start .0) (field .0)
+Enters s range depth field (into.Inner at) =
+    Held (range .start .0) (range .end .0) (at .0) (headSize layout32) nodeAlign
+    × (enter layout32 s (range .end .0) (range .start .0) (at .0) inner (entered layout32 s (depth - 1) (range .start .0) (at .0) inner)
+    ≡ checkNode layout32 s (depth - 1) (range .end .0) (range .start .0) (field .0))

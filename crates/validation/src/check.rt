@@ -24,7 +24,7 @@ ghost use Rattle.format.specs.Node.{leaf, inner};
 ghost use Rattle.format.specs.Check.{counted, enter, checkNode, recorded, checkRoot, checkArchive};
 ghost use Rattle.format.specs.Laws.Entered.{entered};
 ghost use Rattle.validation.specs.Subtree.{Held};
-ghost use Rattle.validation.specs.Answers.{refusedPtr, nodeOf, refusedNode};
+ghost use Rattle.validation.specs.Answers.{refusedPtr, nodeOf, refusedNode, enteredLeaf, Enters};
 
 // A node's entries and the position that it ends at, or a refusal.
 enum NodeAnswer {
@@ -67,6 +67,44 @@ fn check_leaf_node(archive: &[u8], range: SubtreeRange, depth: usize, at: Positi
         return NodeAnswer::Refused(Refusal::InvalidLength);
     }
     NodeAnswer::Entries(count, Position(from + Layout::LEAF))
+}
+
+// What a field leads to, before an inner node's children are checked: a leaf's entries and end, or an inner node's position.
+enum Entered {
+    Leaf(usize, Position),
+    Inner(Position),
+    Refused(Refusal),
+}
+
+// A leaf's answer, as what a field leads to.
+fn entered_leaf(node: NodeAnswer) -> Entered
+    ensures { λ r. ⌜ r ≡ enteredLeaf node ⌝ }
+{
+    match node {
+        NodeAnswer::Refused(why) => Entered::Refused(why),
+        NodeAnswer::Entries(count, end) => Entered::Leaf(count, end),
+    }
+}
+
+// Follows a field and reads the kind. A leaf is checked whole; of an inner node the first bytes stand in their place.
+fn enter_node(archive: &[u8], range: SubtreeRange, depth: usize, field: Position) -> Entered
+    requires { ⌜ (range .end .0 ≤ length (now archive)) × (field .0 + pointer layout32 ≤ length (now archive)) ⌝ }
+    ensures { λ r. ⌜ Enters (now (archive .entry)) range depth field r ⌝ }
+{
+    let Target::At(at) = rel_ptr_at(archive, field) else {
+        return Entered::Refused(Refusal::InvalidSubtreePointer);
+    };
+    let placed = check_subtree_ptr(range, at, Layout::NODE, Layout::NODE_ALIGN);
+    let PtrAnswer::Inside = placed else {
+        return entered_leaf(refused_ptr(placed));
+    };
+    let from = at.0;
+    // The kind byte.
+    match archive[from] {
+        0 => entered_leaf(check_leaf_node(archive, range, depth, at)),
+        1 => Entered::Inner(at),
+        _ => Entered::Refused(Refusal::InvalidKind),
+    }
 }
 
 // The children stand before the node, each after the one before it.
@@ -115,19 +153,28 @@ fn check_node_rel_ptr(
     requires { ⌜ (range .end .0 ≤ length (now archive)) × (field .0 + pointer layout32 ≤ length (now archive)) ⌝ }
     ensures { λ r. ⌜ nodeOf r ≡ checkNode layout32 (now (archive .entry)) (depth - 1) (range .end .0) (range .start .0) (field .0) ⌝ }
 {
-    let Target::At(at) = rel_ptr_at(archive, field) else {
-        return NodeAnswer::Refused(Refusal::InvalidSubtreePointer);
-    };
-    let placed = check_subtree_ptr(range, at, Layout::NODE, Layout::NODE_ALIGN);
-    let PtrAnswer::Inside = placed else {
-        return refused_ptr(placed);
-    };
-    let from = at.0;
-    // The kind byte.
-    match archive[from] {
-        0 => check_leaf_node(archive, range, depth, at),
-        1 => check_inner_node(archive, range, depth, at),
-        _ => NodeAnswer::Refused(Refusal::InvalidKind),
+    match enter_node(archive, range, depth, field) {
+        Entered::Refused(why) => NodeAnswer::Refused(why),
+        Entered::Leaf(count, end) => NodeAnswer::Entries(count, end),
+        Entered::Inner(at) => check_inner_node(archive, range, depth, at),
+    }
+}
+
+// The same for the record's field. It calls `check_inner_node` itself, so that this one stays a function of its own in the compiled program and
+// `check_node_rel_ptr` becomes part of it: a leaf then takes no call.
+fn check_root_rel_ptr(
+    archive: &[u8],
+    range: SubtreeRange,
+    depth: usize,
+    field: Position,
+) -> NodeAnswer
+    requires { ⌜ (range .end .0 ≤ length (now archive)) × (field .0 + pointer layout32 ≤ length (now archive)) ⌝ }
+    ensures { λ r. ⌜ nodeOf r ≡ checkNode layout32 (now (archive .entry)) (depth - 1) (range .end .0) (range .start .0) (field .0) ⌝ }
+{
+    match enter_node(archive, range, depth, field) {
+        Entered::Refused(why) => NodeAnswer::Refused(why),
+        Entered::Leaf(count, end) => NodeAnswer::Entries(count, end),
+        Entered::Inner(at) => check_inner_node(archive, range, depth, at),
     }
 }
 
@@ -142,7 +189,7 @@ fn verify(archive: &[u8], range: SubtreeRange, depth: usize, at: Position) -> Ch
     if count == 0 {
         return CheckAnswer::Accepted(0);
     }
-    let root = check_node_rel_ptr(archive, range, depth, at);
+    let root = check_root_rel_ptr(archive, range, depth, at);
     let NodeAnswer::Entries(entries, _) = root else {
         return refused_node(root);
     };

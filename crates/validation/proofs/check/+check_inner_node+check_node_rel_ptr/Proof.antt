@@ -26,12 +26,10 @@ use Rattle.validation.proofs.check.check_node_rel_ptr.Reads as check-no
 use Rattle.validation.proofs.check.check_node_rel_ptr.Kinds as check-node-rel-ptr-kinds
 use Rattle.validation.proofs.check.+check_inner_node+check_node_rel_ptr.Lts-check_node_rel_ptr as check-node-rel-ptr-lts
 use Rattle.fields.proofs.rel_ptr.is_invalid_at.Reads as is-invalid-at-reads
-use Rattle.fields.proofs.rel_ptr.rel_ptr_at.Reads as rel-ptr-at-reads
-use Rattle.validation.proofs.archive.check_subtree_ptr.Reads as check-subtree-ptr-reads
 use Rattle.validation.proofs.archive.in_subtree.Reads as in-subtree-reads
 use Rattle.validation.proofs.archive.pop_subtree_range.Reads as pop-subtree-range-reads
 use Rattle.validation.proofs.archive.push_subtree_range.Reads as push-subtree-range-reads
-use Rattle.validation.proofs.check.check_leaf_node.Reads as check-leaf-node-reads
+use Rattle.validation.proofs.check.enter_node.Reads as enter-node-reads
 use Rattle.validation.proofs.check.refused_ptr.Reads as refused-ptr-reads
 use Rattle.validation.proofs.check.+check_inner_node+check_node_rel_ptr.{statement}
 use Rattle.validation.proofs.check.+check_inner_node+check_node_rel_ptr.Tie.{close}
@@ -228,57 +226,27 @@ check-inner-node-returns-5 t c =
     sym (inner-entries layout32 _ _ _ _ _ (k .before .before .before .before .before .before .pre .1 .1) (within t (k .before .before)) _ _ (last t c .is))
 
 abbrev check-node-rel-ptr-calls : ℕ → check-node-rel-ptr-lts.Claims
-check-node-rel-ptr-calls t = (rel-ptr-at-reads.Asked, rel-ptr-at-reads.Learnt, check-subtree-ptr-reads.Asked, check-subtree-ptr-reads.Learnt, refused-ptr-reads.Asked, refused-ptr-reads.Learnt, check-leaf-node-reads.Asked, check-leaf-node-reads.Learnt, check-inner-node-below t, check-inner-node.Post)
+check-node-rel-ptr-calls t = (enter-node-reads.Asked, enter-node-reads.Learnt, check-inner-node-below t, check-inner-node.Post)
 
 -- A need of `check-node-rel-ptr`.
 abbrev In-check-node-rel-ptr : ℕ → (check-node-rel-ptr-lts.Claims → In 1 check-node-rel-ptr-kinds.ps → Out 1 check-node-rel-ptr-kinds.ps check-node-rel-ptr-kinds.r → Type 0) → Type 0
 In-check-node-rel-ptr t need = need (check-node-rel-ptr-calls t) (check-node-rel-ptr-at t) check-node-rel-ptr.Post
 
--- Where the field leads.
-leads : (t : ℕ) (c : In-check-node-rel-ptr t check-node-rel-ptr-lts.After-known-told) →
-    let a = c .before .before .before .before .before .args in
-    target layout32 (a .archive .now) (a .field .0) ≡ RelPtr.at (c .before .at .given .0 .0 .0)
-leads t c = sym (c .before .before .before .rel-ptr-at .ensures) ∙ ap targetOf (c .before .at .given .1)
-
--- The first bytes of the node stand in their place.
-inside : (t : ℕ) (c : In-check-node-rel-ptr t check-node-rel-ptr-lts.After-enum-told2) →
-    let k = c .before .before .before in
-    let a = k .before .before .before .before .before .args in
-    placed (a .range .start .0) (a .range .end .0) (k .before .at .given .0 .0 .0) (headSize layout32) nodeAlign ≡ Inside
-inside t c = sym (c .before .before .check-subtree-ptr .ensures) ∙ c .enum-told2 .given .1
+check-node-rel-ptr-check-inner-node-requires : (t : ℕ) → In-check-node-rel-ptr t check-node-rel-ptr-lts.Need-check-inner-node-requires
+check-node-rel-ptr-check-inner-node-requires t c κs =
+    let e = rw (c .before .at .given .1) at (c .before .before .before .enter-node .ensures) in
+    (search needs, (search needs, e .0))
 
 check-node-rel-ptr-returns : (t : ℕ) → In-check-node-rel-ptr t check-node-rel-ptr-lts.Need-returns
-check-node-rel-ptr-returns t c = sym (node-below layout32 _ _ _ _ _ (sym (c .before .before .rel-ptr-at .ensures) ∙ ap targetOf (c .enum-told .given .1)))
+check-node-rel-ptr-returns t c = rw (c .before .why .given .1) at (c .before .before .before .enter-node .ensures)
 
 check-node-rel-ptr-returns-2 : (t : ℕ) → In-check-node-rel-ptr t check-node-rel-ptr-lts.Need-returns-2
-check-node-rel-ptr-returns-2 t c =
-    let told = c .before .enum-told3 .given .1 in
-    let k = c .before .before .before in
-    ap nodeOf (c .refused-ptr .ensures ∙ ap refusedPtr told) ∙ sym (node-refused layout32 _ _ _ _ _ _ (leads t (k .before)) _ (sym (k .check-subtree-ptr .ensures) ∙ told))
-
-check-node-rel-ptr-shared-slice-read-match3 : (t : ℕ) → In-check-node-rel-ptr t check-node-rel-ptr-lts.Need-shared-slice-read-match3
-check-node-rel-ptr-shared-slice-read-match3 t c = omega (arith, Places.held _ _ _ _ _ (inside t (c .before)))
-
-check-node-rel-ptr-check-leaf-node-requires : (t : ℕ) → In-check-node-rel-ptr t check-node-rel-ptr-lts.Need-check-leaf-node-requires
-check-node-rel-ptr-check-leaf-node-requires t c κs = (search needs, Places.held _ _ _ _ _ (inside t (c .before .before)))
-
-check-node-rel-ptr-check-inner-node-requires : (t : ℕ) → In-check-node-rel-ptr t check-node-rel-ptr-lts.Need-check-inner-node-requires
-check-node-rel-ptr-check-inner-node-requires t c κs = (search needs, (search needs, Places.held _ _ _ _ _ (inside t (c .before .before))))
+check-node-rel-ptr-returns-2 t c = rw (c .before .count .given .1) at (c .before .before .before .enter-node .ensures)
 
 check-node-rel-ptr-returns-3 : (t : ℕ) → In-check-node-rel-ptr t check-node-rel-ptr-lts.Need-returns-3
 check-node-rel-ptr-returns-3 t c =
-    let k = c .before .before .before in
-    c .check-leaf-node .ensures ∙ sym (node-leaf layout32 _ _ _ _ _ _ (leads t (k .before .before .before)) (inside t k) (omega arith))
-
-check-node-rel-ptr-returns-4 : (t : ℕ) → In-check-node-rel-ptr t check-node-rel-ptr-lts.Need-returns-4
-check-node-rel-ptr-returns-4 t c =
-    let k = c .before .before .before in
-    c .check-inner-node .ensures ∙ sym (node-inner layout32 _ _ _ _ _ _ (leads t (k .before .before .before)) (inside t k) (omega arith))
-
-check-node-rel-ptr-returns-5 : (t : ℕ) → In-check-node-rel-ptr t check-node-rel-ptr-lts.Need-returns-5
-check-node-rel-ptr-returns-5 t c =
-    let k = c .before .before in
-    sym (node-other layout32 _ _ _ _ _ _ (leads t (k .before .before .before)) (inside t k) (omega arith) (omega arith))
+    let e = rw (c .before .before .at .given .1) at (c .before .before .before .before .enter-node .ensures) in
+    c .check-inner-node .ensures ∙ e .1
 
 pub +check-inner-node+check-node-rel-ptr-spec : {M : Type 1} → statement M
 +check-inner-node+check-node-rel-ptr-spec =
@@ -327,15 +295,8 @@ pub +check-inner-node+check-node-rel-ptr-spec : {M : Type 1} → statement M
     (λ c κs. search needs)
     (λ c. search needs)
     (λ c. search needs)
-    (check-node-rel-ptr-returns t)
-    (λ c κs. search needs)
     (λ c. search needs)
-    (λ c. search needs)
-    (λ c κs. search needs)
-    (check-node-rel-ptr-returns-2 t)
-    (check-node-rel-ptr-shared-slice-read-match3 t)
-    (check-node-rel-ptr-check-leaf-node-requires t)
     (check-node-rel-ptr-check-inner-node-requires t)
+    (check-node-rel-ptr-returns t)
+    (check-node-rel-ptr-returns-2 t)
     (check-node-rel-ptr-returns-3 t)
-    (check-node-rel-ptr-returns-4 t)
-    (check-node-rel-ptr-returns-5 t)

@@ -17,21 +17,21 @@ returns-2 c =
     let k = c .before .before .before in
     let p = k .before .before .before .before .pre in
     ap checkOf (c .refused-node .ensures ∙ ap refusedNode told)
-    ∙ sym (root-refused layout32 standard _ _ (p .1) _ (k .before .before .u32-at .ensures) (k .before .if1 .left) _ _ _ (p .4) (p .2) (p .3) _ (sym (k .check-node-rel-ptr .ensures) ∙ ap nodeOf told))
+    ∙ sym (root-refused layout32 standard _ _ (p .1) _ (k .before .before .u32-at .ensures) (k .before .if1 .left) _ _ _ (p .4) (p .2) (p .3) _ (sym (k .check-root-rel-ptr .ensures) ∙ ap nodeOf told))
 
 returns-3 : tie.Need-returns-3
 returns-3 c =
     let k = c .before .before .before .before in
     let p = k .before .before .before .before .pre in
     sym (root-differs layout32 standard _ _ (p .1) _ (k .before .before .u32-at .ensures) (k .before .if1 .left) _ _ _ (p .4) (p .2) (p .3) _ _
-    (sym (k .check-node-rel-ptr .ensures) ∙ ap nodeOf (c .before .before .root .given .1)) (c .if2 .taken))
+    (sym (k .check-root-rel-ptr .ensures) ∙ ap nodeOf (c .before .before .root .given .1)) (c .if2 .taken))
 
 returns-4 : tie.Need-returns-4
 returns-4 c =
     let k = c .before .before .before .before in
     let p = k .before .before .before .before .pre in
     sym (root-entries layout32 standard _ _ (p .1) _ (k .before .before .u32-at .ensures) (k .before .if1 .left) _ _ _ (p .4) (p .2) (p .3) _ _
-    (sym (k .check-node-rel-ptr .ensures) ∙ ap nodeOf (c .before .before .root .given .1)) (c .if2 .left))
+    (sym (k .check-root-rel-ptr .ensures) ∙ ap nodeOf (c .before .before .root .given .1)) (c .if2 .left))
 
 pub verify-spec : {M : Type 1} → statement M
 verify-spec =

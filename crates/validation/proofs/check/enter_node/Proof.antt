@@ -1,0 +1,94 @@
+-- `validation::check::enter_node` meets its contract. Assumes nothing.
+use Prim.Native.Nat.{ℕ, _-_}
+use mathlib.Core.Path.{_≡_, sym, ap, _∙_}
+use mathlib.Core.List.{List}
+use native.Mathlib.Omega.{arith}
+use Rattle.format.specs.declared.Position.{Position}
+use Rattle.format.specs.Layout.{layout32, headSize, nodeAlign}
+use Rattle.format.specs.RelPtr as RelPtr
+use Rattle.format.specs.RelPtr.{target}
+use Rattle.format.specs.Check.{checkNode}
+use Rattle.fields.specs.Answers.{targetOf}
+use Rattle.validation.specs.Subtree.{placed}
+use Rattle.validation.specs.Answers.{refusedPtr, nodeOf, enteredLeaf, Enters}
+use Rattle.validation.specs.declared.archive.SubtreeRange.{SubtreeRange}
+use Rattle.validation.specs.declared.archive.PtrAnswer.the-variants.{Inside}
+use Rattle.validation.specs.declared.check.NodeAnswer.{NodeAnswer}
+use Rattle.validation.specs.declared.check.NodeAnswer.the-variants.{Entries, Refused}
+use Rattle.validation.proofs.Places as Places
+use Rattle.validation.proofs.Nodes.{node-below, node-refused, node-leaf, node-inner, node-other}
+use borrow.Author.Needs.{needs}
+use Rattle.validation.proofs.check.enter_node.Statement.{statement}
+use Rattle.validation.proofs.check.enter_node.Tie as tie
+
+-- A leaf's answer, or a refusal, is the node's.
+enters-leaf : (s : List ℕ) (range : SubtreeRange) (depth : ℕ) (field : Position) (a : NodeAnswer) →
+    nodeOf a ≡ checkNode layout32 s (depth - 1) (range .end .0) (range .start .0) (field .0) → Enters s range depth field (enteredLeaf a)
+enters-leaf s range depth field (Entries n end) e = e
+enters-leaf s range depth field (Refused r) e = e
+
+-- Where the field leads.
+leads : (c : tie.After-known-told) →
+    let a = c .before .before .before .before .before .args in
+    target layout32 (a .archive .now) (a .field .0) ≡ RelPtr.at (c .before .at .given .0 .0 .0)
+leads c = sym (c .before .before .before .rel-ptr-at .ensures) ∙ ap targetOf (c .before .at .given .1)
+
+-- The first bytes of the node stand in their place.
+inside : (c : tie.After-enum-told2) →
+    let k = c .before .before .before in
+    let a = k .before .before .before .before .before .args in
+    placed (a .range .start .0) (a .range .end .0) (k .before .at .given .0 .0 .0) (headSize layout32) nodeAlign ≡ Inside
+inside c = sym (c .before .before .check-subtree-ptr .ensures) ∙ c .enum-told2 .given .1
+
+returns : tie.Need-returns
+returns c = sym (node-below layout32 _ _ _ _ _ (sym (c .before .before .rel-ptr-at .ensures) ∙ ap targetOf (c .enum-told .given .1)))
+
+returns-2 : tie.Need-returns-2
+returns-2 c =
+    let m = c .before in
+    let told = m .before .enum-told3 .given .1 in
+    let k = m .before .before .before in
+    rw (c .entered-leaf .ensures) (enters-leaf _ _ (k .before .before .before .before .before .before .args .depth) _ (m .refused-ptr .result) (ap nodeOf (m .refused-ptr .ensures ∙ ap refusedPtr told) ∙ sym (node-refused layout32 _ _ _ _ _ _ (leads (k .before)) _ (sym (k .check-subtree-ptr .ensures) ∙ told))))
+
+shared-slice-read-match3 : tie.Need-shared-slice-read-match3
+shared-slice-read-match3 c = omega (arith, Places.held _ _ _ _ _ (inside (c .before)))
+
+check-leaf-node-requires : tie.Need-check-leaf-node-requires
+check-leaf-node-requires c κs = (search needs, Places.held _ _ _ _ _ (inside (c .before .before)))
+
+returns-3 : tie.Need-returns-3
+returns-3 c =
+    let m = c .before in
+    let k = m .before .before .before in
+    rw (c .entered-leaf2 .ensures) (enters-leaf _ _ _ _ (m .check-leaf-node .result) (m .check-leaf-node .ensures ∙ sym (node-leaf layout32 _ _ _ _ _ _ (leads (k .before .before .before)) (inside k) (omega arith))))
+
+returns-4 : tie.Need-returns-4
+returns-4 c =
+    let k = c .before .before in
+    (Places.held _ _ _ _ _ (inside k), sym (node-inner layout32 _ _ _ _ _ _ (leads (k .before .before .before)) (inside k) (omega arith)))
+
+returns-5 : tie.Need-returns-5
+returns-5 c =
+    let k = c .before .before in
+    sym (node-other layout32 _ _ _ _ _ _ (leads (k .before .before .before)) (inside k) (omega arith) (omega arith))
+
+pub enter-node-spec : {M : Type 1} → statement M
+enter-node-spec =
+    tie.close
+    (tie.spec
+    (λ c κs. search needs)
+    (search needs)
+    (search needs)
+    returns
+    (λ c κs. search needs)
+    (search needs)
+    (search needs)
+    (λ c κs. search needs)
+    (λ c κs. search needs)
+    returns-2
+    shared-slice-read-match3
+    check-leaf-node-requires
+    (λ c κs. search needs)
+    returns-3
+    returns-4
+    returns-5)
