@@ -12,6 +12,8 @@ use format::CheckAnswer;
 use format::Refusal;
 use libc::STDIN_FILENO;
 use libc::STDOUT_FILENO;
+ghost use mathlib.Core.Path.{_≡_};
+ghost use lib.ListN.{length};
 
 fn next_u8() -> u8 {
     let mut bytes = [0u8; 1];
@@ -180,7 +182,21 @@ fn replay_all(buffer: &mut [u8]) {
     }
 }
 
+// The shortest archive that is too long. The input does not have it.
+fn too_long() -> [u8; 1048577]
+    ensures { λ r. ⌜ 1048577 ≡ length r ⌝ }
+{
+    [0; 1048577]
+}
+
+fn replay_too_long() {
+    let archive = too_long();
+    print(b"too long ");
+    print_checked(fieldmap::check(&archive));
+}
+
 fn main() {
+    replay_too_long();
     let mut buffer = io::large_buffer();
     replay_all(&mut buffer);
 }
