@@ -1,5 +1,5 @@
-// The calls for programs in C and Rust. A slice passes as a pointer and a length. A call answers a count, or on a refusal 2^32 plus its number, and
-// then leaves what was lent as it was. A count is below 2^32, of keys found where fewer than 2^32 are lent.
+// The calls for programs in C and Rust. A slice passes as a pointer and a length. A call answers a number, or on a refusal 2^32 plus the refusal's
+// number, and then leaves what was lent as it was. An archive's count has 32 bits.
 use btree::node::pointed;
 use builder::build::BuildAnswer;
 use fieldmap::LookupAnswer;
