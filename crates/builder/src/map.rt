@@ -33,10 +33,10 @@ ghost use Rattle.builder.specs.Nodes.{leafBytes, lesserBytes, innerBytes
 fn stored_bits(s: Stored) -> u32
     ensures { λ r. ⌜ leBytes 4 r ≡ emplaced layout32 (storedOf s) ⌝ }
 {
-    match s {
-        Stored::Offset(z) => bits32(z),
-        Stored::Refused(_) => 0,
-    }
+    let Stored::Offset(z) = s else {
+        return 0;
+    };
+    bits32(z)
 }
 
 // The offset that the field at a position stores for a child; zero where it is refused.

@@ -9,10 +9,10 @@ use Rattle.builder.proofs.map.stored_bits.Statement.{statement}
 use Rattle.builder.proofs.map.stored_bits.Tie as tie
 
 returns : tie.Need-returns
-returns c = rw (c .before .before .s .given .1) (ap (leBytes 4) (c .bits32 .ensures ∙ ap (twos 31) (toZ-ofZ {w = w32} (sfits-of (c .before .known-told .given .0 .1)))))
+returns c = rw (c .enum-told .given .1)
 
 returns-2 : tie.Need-returns-2
-returns-2 c = rw (c .enum-told .given .1)
+returns-2 c = rw (c .before .before .s .given .1) (ap (leBytes 4) (c .bits32 .ensures ∙ ap (twos 31) (toZ-ofZ {w = w32} (sfits-of (c .before .known-told .given .0 .1)))))
 
 pub stored-bits-spec : {M : Type 1} → statement M
-stored-bits-spec = tie.close (tie.spec (search needs) (search needs) (search needs) returns returns-2)
+stored-bits-spec = tie.close (tie.spec (search needs) (search needs) returns (search needs) returns-2)
