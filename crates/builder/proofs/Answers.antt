@@ -12,13 +12,12 @@ use Rattle.builder.specs.declared.inline_vec.Pair.{Pair}
 use Rattle.builder.specs.declared.map.Next.the-variants.{Got, End}
 use Rattle.builder.specs.declared.map.Fit.{Fit}
 use Rattle.builder.specs.declared.map.Fit.the-variants.{End as Ends, NoRoom}
-use Rattle.format.specs.declared.Child.{Child}
-use Rattle.format.specs.declared.Child.the-variants.{Absent}
+use Rattle.builder.specs.declared.inline_vec.ChildPos.{ChildPos}
 use Rattle.builder.specs.declared.inline_vec.OpenInner.{OpenInner}
 use Rattle.builder.specs.declared.ser_vec.OpenInners.{OpenInners}
 use Rattle.builder.specs.declared.map.Filled.{Filled}
 use Rattle.builder.specs.Machine.{Building, entryAt, fitOf, pickNext, pickFit, shutLeaf, shutLeafAt, shutInner, shutInnerAt, fillS, transitS, withFilled, withInners, climbS, growAt}
-use Rattle.builder.specs.Nodes.{pushInner, lastInner, popInners}
+use Rattle.builder.specs.Nodes.{noChild, pushInner, lastInner, popInners}
 
 -- An entry stands below the length.
 pub got-below : (ks vs : List ℕ) (i : ℕ) (e : Pair) → entryAt ks vs i ≡ Got e → i < length ks
@@ -46,18 +45,18 @@ pub shut-inner-by : (n : OpenInner) (s : Building) (out : List ℕ) (f : Fit) �
 unfolding shutInner
 shut-inner-by n s out f h = ap (λ (g : Fit). shutInnerAt g n s out) (sym h)
 
-pub fill-got : (k : ℕ) (ks vs : List ℕ) (n : OpenInner) (c : Child) (i : ℕ) (e : Pair) → entryAt ks vs i ≡ Got e →
-    fillS k ks vs (pushInner n e c) Absent (i + 1) ≡ fillS (suc k) ks vs n c i
+pub fill-got : (k : ℕ) (ks vs : List ℕ) (n : OpenInner) (c : ChildPos) (i : ℕ) (e : Pair) → entryAt ks vs i ≡ Got e →
+    fillS k ks vs (pushInner n e c) noChild (i + 1) ≡ fillS (suc k) ks vs n c i
 unfolding fillS
 fill-got k ks vs n c i e h = rw (h, fillS)
 
-pub fill-end : (k : ℕ) (ks vs : List ℕ) (n : OpenInner) (c : Child) (i : ℕ) → entryAt ks vs i ≡ End →
+pub fill-end : (k : ℕ) (ks vs : List ℕ) (n : OpenInner) (c : ChildPos) (i : ℕ) → entryAt ks vs i ≡ End →
     fillS k ks vs n c i ≡ record { node = n; child = c; next = i }
 unfolding fillS
 fill-end zero ks vs n c i h = refl
 fill-end (suc k) ks vs n c i h = rw (h, fillS)
 
-pub fill-full : (ks vs : List ℕ) (n : OpenInner) (c : Child) (i : ℕ) → fillS 0 ks vs n c i ≡ record { node = n; child = c; next = i }
+pub fill-full : (ks vs : List ℕ) (n : OpenInner) (c : ChildPos) (i : ℕ) → fillS 0 ks vs n c i ≡ record { node = n; child = c; next = i }
 unfolding fillS
 fill-full ks vs n c i = refl
 

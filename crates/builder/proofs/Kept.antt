@@ -7,8 +7,7 @@ use native.Mathlib.Decide.{decLt, ℕ-discrete}
 use borrow.Author.Tests.{lt-ltb, le-ltb, eq-eqb, ne-eqb}
 use lib.ListN.{length}
 use Rattle.builder.specs.declared.inline_vec.Pair.{Pair}
-use Rattle.format.specs.declared.Child.{Child}
-use Rattle.format.specs.declared.Child.the-variants.{Absent}
+use Rattle.builder.specs.declared.inline_vec.ChildPos.{ChildPos}
 use Rattle.builder.specs.declared.map.Next.{Next}
 use Rattle.builder.specs.declared.map.Next.the-variants.{Got, End}
 use Rattle.builder.specs.declared.map.Fit.{Fit}
@@ -17,7 +16,7 @@ use Rattle.builder.specs.declared.inline_vec.OpenLeaf.{OpenLeaf}
 use Rattle.builder.specs.declared.inline_vec.OpenInner.{OpenInner}
 use Rattle.builder.specs.declared.ser_vec.OpenInners.{OpenInners}
 use Rattle.builder.specs.Machine.{Building, entryAt, fitOf, shutLeaf, shutLeafAt, shutInner, shutInnerAt, fillS, transitS, withFilled, withInners, climbS, growAt, reopen, turnS, takeB, runS}
-use Rattle.builder.specs.Nodes.{pushInner, pushInners, lastInner, popInners}
+use Rattle.builder.specs.Nodes.{noChild, pushInner, pushInners, lastInner, popInners}
 use Rattle.builder.proofs.Answers.{fill-got, fill-end, transit-none, transit-some, climb-none, climb-end, climb-got, climb-shut′, got-below}
 
 -- The leaf and the count stay, at most five inner nodes are open, and no entry comes back.
@@ -31,23 +30,23 @@ pub reopen-len : (p : ℕ) (s : OpenInners) → reopen p s .len ≡ s .len + p
 reopen-len zero s = omega arith
 reopen-len (suc p) s = let h : reopen p (pushInners s) .len ≡ s .len + 1 + p = reopen-len p (pushInners s) in omega arith
 
-pub fill-next : (k : ℕ) (ks vs : List ℕ) (n : OpenInner) (c : Child) (i : ℕ) → i ≤ fillS k ks vs n c i .next
+pub fill-next : (k : ℕ) (ks vs : List ℕ) (n : OpenInner) (c : ChildPos) (i : ℕ) → i ≤ fillS k ks vs n c i .next
 unfolding fillS
 fill-next zero ks vs n c i = omega arith
 fill-next (suc k) ks vs n c i = go (entryAt ks vs i) refl (λ n c i. fill-next k ks vs n c i)
   where
-    go : (x : Next) → entryAt ks vs i ≡ x → ((n : OpenInner) (c : Child) (i : ℕ) → i ≤ fillS k ks vs n c i .next) → i ≤ fillS (suc k) ks vs n c i .next
+    go : (x : Next) → entryAt ks vs i ≡ x → ((n : OpenInner) (c : ChildPos) (i : ℕ) → i ≤ fillS k ks vs n c i .next) → i ≤ fillS (suc k) ks vs n c i .next
     go End h ih = rw (fill-end (suc k) ks vs n c i h) (omega arith)
-    go (Got e) h ih = rw (← fill-got k ks vs n c i e h) (omega (arith, ih (pushInner n e c) Absent (i + 1)))
+    go (Got e) h ih = rw (← fill-got k ks vs n c i e h) (omega (arith, ih (pushInner n e c) noChild (i + 1)))
 
-pub fill-upto : (k : ℕ) (ks vs : List ℕ) (n : OpenInner) (c : Child) (i : ℕ) → i ≤ length ks → fillS k ks vs n c i .next ≤ length ks
+pub fill-upto : (k : ℕ) (ks vs : List ℕ) (n : OpenInner) (c : ChildPos) (i : ℕ) → i ≤ length ks → fillS k ks vs n c i .next ≤ length ks
 unfolding fillS
 fill-upto zero ks vs n c i m = m
 fill-upto (suc k) ks vs n c i m = go (entryAt ks vs i) refl (λ n c i. fill-upto k ks vs n c i)
   where
-    go : (x : Next) → entryAt ks vs i ≡ x → ((n : OpenInner) (c : Child) (i : ℕ) → i ≤ length ks → fillS k ks vs n c i .next ≤ length ks) → fillS (suc k) ks vs n c i .next ≤ length ks
+    go : (x : Next) → entryAt ks vs i ≡ x → ((n : OpenInner) (c : ChildPos) (i : ℕ) → i ≤ length ks → fillS k ks vs n c i .next ≤ length ks) → fillS (suc k) ks vs n c i .next ≤ length ks
     go End h ih = rw (fill-end (suc k) ks vs n c i h) m
-    go (Got e) h ih = let z : i < length ks = got-below ks vs i e h in rw (← fill-got k ks vs n c i e h) (ih (pushInner n e c) Absent (i + 1) (omega arith))
+    go (Got e) h ih = let z : i < length ks = got-below ks vs i e h in rw (← fill-got k ks vs n c i e h) (ih (pushInner n e c) noChild (i + 1) (omega arith))
 
 -- Closing keeps all but the child and the position.
 pub record Same (s t : Building) : Type 0 where

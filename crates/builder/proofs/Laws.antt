@@ -5,7 +5,8 @@ use Prim.Native.Nat.{ℕ, zero, suc, _+_, _-_, _<_}
 use native.Mathlib.Omega.{arith}
 use native.Mathlib.Nat.{suc-ne-zero, suc-inj}
 use lib.ListN.{length, getD, set, replicate}
-use Rattle.format.specs.declared.Child.{Child}
+use Rattle.builder.specs.declared.inline_vec.ChildPos.{ChildPos}
+use Rattle.format.specs.declared.Child.the-variants.{Absent, At}
 use Rattle.format.specs.Layout.{layout32}
 use Rattle.format.specs.Bytes.{leBytes, put}
 use Rattle.format.specs.Tree.{offsetBytes}
@@ -13,7 +14,7 @@ use Rattle.format.specs.Laws.Bytes.{put-append}
 use Rattle.builder.specs.declared.inline_vec.Pair.{Pair}
 use Rattle.builder.specs.declared.inline_vec.Slot.{Slot}
 use Rattle.builder.specs.declared.inline_vec.OpenInner.{OpenInner}
-use Rattle.builder.specs.Nodes.{flat, leafBytes, lesserBytes, innerBytes, noPair}
+use Rattle.builder.specs.Nodes.{childAt, flat, leafBytes, lesserBytes, innerBytes, noPair}
 
 -- A list of five, written out.
 pub five : {A : Type 0} (l : List A) (d : A) → length l ≡ 5 → getD l 0 d ∷ getD l 1 d ∷ getD l 2 d ∷ getD l 3 d ∷ getD l 4 d ∷ [] ≡ l
@@ -78,10 +79,18 @@ six-fields : (a b c d e f : List ℕ) (q₀ q₁ q₂ q₃ q₄ q₅ : ℕ) → 
     → flat 4 (q₀ ∷ q₁ ∷ q₂ ∷ q₃ ∷ q₄ ∷ q₅ ∷ []) ≡ (a ++ (b ++ (c ++ (d ++ (e ++ []))))) ++ f
 six-fields a b c d e f q₀ q₁ q₂ q₃ q₄ q₅ r₀ r₁ r₂ r₃ r₄ r₅ = rw (← r₀, ← r₁, ← r₂, ← r₃, ← r₄, ← r₅) (all-fields q₀ q₁ q₂ q₃ q₄ q₅)
 
-pub inner-runs : (l o₁ o₂ o₃ o₄ : List ℕ) (p : ℕ) (n : OpenInner) (z : Slot) (g : Child) (q₀ q₁ q₂ q₃ q₄ q₅ : ℕ) → length (n .slots) ≡ 5
+-- The child by its position plus one.
+pub child-none : (n : ℕ) → n ≡ 0 → childAt n ≡ Absent
+child-none n h = ap childAt h
+
+pub child-some : (n : ℕ) → (n ≡ 0 → ⊥) → childAt n ≡ At (record { 0 = n - 1 })
+child-some zero h = absurd (h refl)
+child-some (suc p) h = ap (λ (i : ℕ). At (record { 0 = i })) (omega arith)
+
+pub inner-runs : (l o₁ o₂ o₃ o₄ : List ℕ) (p : ℕ) (n : OpenInner) (z : Slot) (g : ChildPos) (q₀ q₁ q₂ q₃ q₄ q₅ : ℕ) → length (n .slots) ≡ 5
     → let a = getD (n .slots) 0 z in let b = getD (n .slots) 1 z in let c = getD (n .slots) 2 z in let d = getD (n .slots) 3 z in let e = getD (n .slots) 4 z in
     leBytes 4 q₀ ≡ lesserBytes (p + 88) 0 (n .len) a → leBytes 4 q₁ ≡ lesserBytes (p + 88 + 4) 1 (n .len) b → leBytes 4 q₂ ≡ lesserBytes (p + 88 + 4 + 4) 2 (n .len) c
-    → leBytes 4 q₃ ≡ lesserBytes (p + 88 + 4 + 4 + 4) 3 (n .len) d → leBytes 4 q₄ ≡ lesserBytes (p + 88 + 4 + 4 + 4 + 4) 4 (n .len) e → leBytes 4 q₅ ≡ offsetBytes layout32 (p + 88 + 4 + 4 + 4 + 4 + 4) g
+    → leBytes 4 q₃ ≡ lesserBytes (p + 88 + 4 + 4 + 4) 3 (n .len) d → leBytes 4 q₄ ≡ lesserBytes (p + 88 + 4 + 4 + 4 + 4) 4 (n .len) e → leBytes 4 q₅ ≡ offsetBytes layout32 (p + 88 + 4 + 4 + 4 + 4 + 4) (childAt (g .0))
     → o₁ ≡ put l p (leBytes 8 1) → o₂ ≡ put o₁ (p + 8) (flat 8 (a .key ∷ b .key ∷ c .key ∷ d .key ∷ e .key ∷ []))
     → o₃ ≡ put o₂ (p + 48) (flat 8 (a .value ∷ b .value ∷ c .value ∷ d .value ∷ e .value ∷ [])) → o₄ ≡ put o₃ (p + 88) (flat 4 (q₀ ∷ q₁ ∷ q₂ ∷ q₃ ∷ q₄ ∷ q₅ ∷ []))
     → o₄ ≡ put l p (innerBytes p n g)
@@ -92,7 +101,7 @@ inner-runs l o₁ o₂ o₃ o₄ p n z g q₀ q₁ q₂ q₃ q₄ q₅ h r₀ r�
     let k = eleven-runs l o₁ o₂ o₃ p 1 (a .key) (b .key) (c .key) (d .key) (e .key) (a .value) (b .value) (c .value) (d .value) (e .value) e₁ e₂ e₃ in
     let w : List ℕ = flat 8 (1 ∷ a .key ∷ b .key ∷ c .key ∷ d .key ∷ e .key ∷ a .value ∷ b .value ∷ c .value ∷ d .value ∷ e .value ∷ []) in
     let f₅ : p + 88 + 4 + 4 + 4 + 4 + 4 ≡ p + 88 + 20 = omega arith in
-    let x = six-fields _ _ _ _ _ _ q₀ q₁ q₂ q₃ q₄ q₅ r₀ r₁ r₂ r₃ r₄ (r₅ ∙ ap (λ (f : ℕ). offsetBytes layout32 f g) f₅) in
+    let x = six-fields _ _ _ _ _ _ q₀ q₁ q₂ q₃ q₄ q₅ r₀ r₁ r₂ r₃ r₄ (r₅ ∙ ap (λ (f : ℕ). offsetBytes layout32 f (childAt (g .0))) f₅) in
     join l o₃ o₄ p w (flat 4 (q₀ ∷ q₁ ∷ q₂ ∷ q₃ ∷ q₄ ∷ q₅ ∷ [])) k e₄
     ∙ ap (λ (y : List ℕ). put l p (w ++ y)) x
     ∙ ap (λ (t : List Slot). put l p (mk t)) (five ss z h)

@@ -8,8 +8,7 @@ use borrow.Author.Tests.{lt-ltb, le-ltb, le-leb}
 use lib.ListN.{length, getD, set, length-set}
 use lib.Seq.{sets, set-getD, set-set, getD-set-same}
 use Rattle.builder.specs.declared.inline_vec.Pair.{Pair}
-use Rattle.format.specs.declared.Child.{Child}
-use Rattle.format.specs.declared.Child.the-variants.{Absent, At}
+use Rattle.builder.specs.declared.inline_vec.ChildPos.{ChildPos}
 use Rattle.builder.specs.declared.map.Next.the-variants.{Got, End}
 use Rattle.builder.specs.declared.map.Fit.{Fit}
 use Rattle.builder.specs.declared.map.Fit.the-variants.{End as Ends, NoRoom}
@@ -17,7 +16,7 @@ use Rattle.builder.specs.declared.inline_vec.OpenLeaf.{OpenLeaf}
 use Rattle.builder.specs.declared.inline_vec.OpenInner.{OpenInner}
 use Rattle.builder.specs.declared.ser_vec.OpenInners.{OpenInners}
 use Rattle.builder.specs.Machine.{Building, St, entryAt, fitOf, takeB, shutLeaf, shutLeafAt, shutInner, shutInnerAt, climbS, transitS, turnS, runS, growAt, fillS, reopen}
-use Rattle.builder.specs.Nodes.{newLeaf, newInner, newInners, pushInners, pushLeaf, pushInner, leafBytes, innerBytes}
+use Rattle.builder.specs.Nodes.{noChild, closedAt, newLeaf, newInner, newInners, pushInners, pushLeaf, pushInner, leafBytes, innerBytes}
 use Rattle.builder.specs.declared.map.Filled.{Filled}
 use Rattle.builder.specs.declared.map.Shut.{Shut}
 use Rattle.builder.specs.declared.map.Low.{Low}
@@ -71,12 +70,12 @@ pub takes-len : (k : ℕ) (ks vs : List ℕ) (i : ℕ) → takes k ks vs i .len 
 takes-len zero ks vs i = refl
 takes-len (suc k) ks vs i = let h = takes-len k ks vs i in omega (arith, h)
 
-abbrev pub tookOf : List ℕ → List ℕ → ℕ → List OpenInner → ℕ → Child → ℕ → ℕ → ℕ → Building
+abbrev pub tookOf : List ℕ → List ℕ → ℕ → List OpenInner → ℕ → ChildPos → ℕ → ℕ → ℕ → Building
 tookOf ks vs k ns o child count next at =
     record { leaf = takes k ks vs next; inners = record { nodes = ns; len = o }; child = child; count = count + k; next = next + k; at = at }
 
 -- An entry more.
-took-more : (ks vs : List ℕ) (k : ℕ) (ns : List OpenInner) (o : ℕ) (child : Child) (count next at : ℕ) →
+took-more : (ks vs : List ℕ) (k : ℕ) (ns : List OpenInner) (o : ℕ) (child : ChildPos) (count next at : ℕ) →
     takeB (tookOf ks vs k ns o child count next at) (entryOf ks vs (next + k)) ≡ tookOf ks vs (suc k) ns o child count next at
 took-more ks vs k ns o child count next at =
     ap₂ (λ (c n : ℕ). mk c n) (the-sum count) (the-sum next)
@@ -88,7 +87,7 @@ took-more ks vs k ns o child count next at =
     the-sum x = omega arith
 
 -- Entries that close no leaf.
-pub took-goes : (ks vs : List ℕ) (ll k : ℕ) (ns : List OpenInner) (o : ℕ) (child : Child) (count next at : ℕ) (out : List ℕ) → o ≤ 5 → length ks ≡ length vs →
+pub took-goes : (ks vs : List ℕ) (ll k : ℕ) (ns : List OpenInner) (o : ℕ) (child : ChildPos) (count next at : ℕ) (out : List ℕ) → o ≤ 5 → length ks ≡ length vs →
     k < 5 → next + k ≤ length ks → ((count + k < ll) ⊎ (ll ≤ count)) →
     Goes ks vs ll (stateOf ns o child count next at) out (tookOf ks vs k ns o child count next at) out
 took-goes ks vs ll zero ns o child count next at out few same l m w =
@@ -120,7 +119,7 @@ took-goes ks vs ll (suc k) ns o child count next at out few same l m w =
     other (inr z) e = omega arith
 
 -- A leaf of k + 1 entries that is full, and not the last level's last.
-pub full-goes : (ks vs : List ℕ) (ll k : ℕ) (ns : List OpenInner) (o : ℕ) (child : Child) (count next at : ℕ) (out : List ℕ) → o ≤ 5 → length ks ≡ length vs →
+pub full-goes : (ks vs : List ℕ) (ll k : ℕ) (ns : List OpenInner) (o : ℕ) (child : ChildPos) (count next at : ℕ) (out : List ℕ) → o ≤ 5 → length ks ≡ length vs →
     k ≡ 4 → next + suc k ≤ length ks → ((count + suc k < ll) ⊎ (ll ≤ count)) →
     let t = shutLeaf (tookOf ks vs (suc k) ns o child count next at) out in
     let c = climbS (t .b .inners .len) ks vs 0 (t .b) (t .out) in
@@ -149,7 +148,7 @@ full-goes ks vs ll k ns o child count next at out few same l m w =
     other (inr z) e = omega arith
 
 -- The last level's last leaf, of k + 1 entries.
-pub last-goes : (ks vs : List ℕ) (ll k : ℕ) (ns : List OpenInner) (o : ℕ) (child : Child) (count next at : ℕ) (out : List ℕ) → o ≤ 5 → length ks ≡ length vs →
+pub last-goes : (ks vs : List ℕ) (ll k : ℕ) (ns : List OpenInner) (o : ℕ) (child : ChildPos) (count next at : ℕ) (out : List ℕ) → o ≤ 5 → length ks ≡ length vs →
     k < 5 → next + suc k ≤ length ks → count + suc k ≡ ll →
     let t = shutLeaf (tookOf ks vs (suc k) ns o child count next at) out in
     let u = transitS ks vs (t .b) (t .out) in
@@ -175,7 +174,7 @@ last-goes ks vs ll k ns o child count next at out few same l m w =
 
 -- ---- closing
 
-pub shut-took : (ks vs : List ℕ) (k : ℕ) (ns : List OpenInner) (o : ℕ) (child : Child) (count next at : ℕ) (out : List ℕ) →
+pub shut-took : (ks vs : List ℕ) (k : ℕ) (ns : List OpenInner) (o : ℕ) (child : ChildPos) (count next at : ℕ) (out : List ℕ) →
     let f = fitOf (length out) at 96 in
     let r = shutOf f child at in
     shutLeaf (tookOf ks vs k ns o child count next at) out
@@ -188,7 +187,7 @@ shut-took ks vs k ns o child count next at out = go (fitOf (length out) at 96)
     go (Ends e) = refl
     go NoRoom = refl
 
-pub shut-inner-state : (n : OpenInner) (ns : List OpenInner) (o : ℕ) (child : Child) (count next at : ℕ) (out : List ℕ) →
+pub shut-inner-state : (n : OpenInner) (ns : List OpenInner) (o : ℕ) (child : ChildPos) (count next at : ℕ) (out : List ℕ) →
     let f = fitOf (length out) at 112 in
     let r = shutOf f child at in
     shutInner n (stateOf ns o child count next at) out ≡ record { b = stateOf ns o (r .child) count next (r .at); out = outOf f out at (innerBytes at n child) }
@@ -206,14 +205,14 @@ pub fit-ends : (len at size : ℕ) → at + size ≤ len → fitOf len at size �
 fit-ends len at size h = rw (le-leb (at + size) len h)
 
 -- A leaf of five and an entry for the lowest open inner node.
-pub stride-step : (ks vs : List ℕ) (ll : ℕ) (ns : List OpenInner) (o : ℕ) (node : OpenInner) (child : Child) (count next at : ℕ) (out : List ℕ) →
+pub stride-step : (ks vs : List ℕ) (ll : ℕ) (ns : List OpenInner) (o : ℕ) (node : OpenInner) (child : ChildPos) (count next at : ℕ) (out : List ℕ) →
     0 < o → o ≤ 5 → length ns ≡ 5 → length ks ≡ length vs → getD ns (o - 1) (record { slots = []; len = 0 }) ≡ node → node .len < 5 →
     at + 96 ≤ length out → next + 6 ≤ length ks → ((count + 5 < ll) ⊎ (ll ≤ count)) →
     (l : OpenLeaf) (out′ : List ℕ) → l ≡ takes 5 ks vs next → out′ ≡ sets out at (leafBytes (l .entries) (l .len)) →
     Goes ks vs ll (stateOf ns o child count next at) out
-    (stateOf (set ns (o - 1) (pushInner node (entryOf ks vs (next + 5)) (At (record { 0 = at })))) o Absent (count + 5) (next + 6) (at + 96)) out′
+    (stateOf (set ns (o - 1) (pushInner node (entryOf ks vs (next + 5)) (closedAt at))) o noChild (count + 5) (next + 6) (at + 96)) out′
 stride-step ks vs ll ns o node child count next at out p few five same en room fits more w l out′ el eo =
-    let here : Child = At (record { 0 = at }) in
+    let here : ChildPos = closedAt at in
     let t : St = record { b = stateOf ns o here (count + 5) (next + 5) (at + 96); out = sets out at (leafBytes (takes 5 ks vs next .entries) (takes 5 ks vs next .len)) } in
     let st : shutLeaf (tookOf ks vs 5 ns o child count next at) out ≡ t =
     shut-took ks vs 5 ns o child count next at out ∙ ap (λ (f : Fit). record { b = stateOf ns o (shutOf f child at .child) (count + 5) (next + 5) (shutOf f child at .at); out = outOf f out at (leafBytes (takes 5 ks vs next .entries) (takes 5 ks vs next .len)) }) (fit-ends (length out) at 96 fits) in
@@ -231,14 +230,14 @@ stride-step ks vs ll ns o node child count next at out p few five same en room f
 pub takes-step : (j : ℕ) (ks vs : List ℕ) (i : ℕ) (l r : OpenLeaf) → l ≡ takes j ks vs i → r ≡ pushLeaf l (entryOf ks vs (i + j)) → r ≡ takes (j + 1) ks vs i
 takes-step j ks vs i l r el er = rw add-one (er ∙ ap (λ (x : OpenLeaf). pushLeaf x (entryOf ks vs (i + j))) el)
 
-pub shut-none : (f : Fit) (out bs : List ℕ) (c : Child) (at : ℕ) → f ≡ NoRoom → (record { child = c; at = at } ≡ shutOf f c at) × (out ≡ outOf f out at bs)
+pub shut-none : (f : Fit) (out bs : List ℕ) (c : ChildPos) (at : ℕ) → f ≡ NoRoom → (record { child = c; at = at } ≡ shutOf f c at) × (out ≡ outOf f out at bs)
 shut-none f out bs c at e = (ap (λ (g : Fit). shutOf g c at) (sym e), ap (λ (g : Fit). outOf g out at bs) (sym e))
 
-pub shut-some : (f : Fit) (out out′ bs : List ℕ) (c : Child) (at end : ℕ) → f ≡ Ends end → out′ ≡ sets out at bs →
-    (record { child = At (record { 0 = at }); at = end } ≡ shutOf f c at) × (out′ ≡ outOf f out at bs)
+pub shut-some : (f : Fit) (out out′ bs : List ℕ) (c : ChildPos) (at end : ℕ) → f ≡ Ends end → out′ ≡ sets out at bs →
+    (record { child = closedAt at; at = end } ≡ shutOf f c at) × (out′ ≡ outOf f out at bs)
 shut-some f out out′ bs c at end e eo = (ap (λ (g : Fit). shutOf g c at) (sym e), eo ∙ ap (λ (g : Fit). outOf g out at bs) (sym e))
 
-pub cross-by : (ks vs : List ℕ) (ns : List OpenInner) (o : ℕ) (c : Child) (count next at : ℕ) (out : List ℕ) (n : OpenInner) (f : Filled) (r : Shut) (out′ : List ℕ) →
+pub cross-by : (ks vs : List ℕ) (ns : List OpenInner) (o : ℕ) (c : ChildPos) (count next at : ℕ) (out : List ℕ) (n : OpenInner) (f : Filled) (r : Shut) (out′ : List ℕ) →
     (o ≡ 0 → ⊥) → n ≡ getD ns (o - 1) (record { slots = []; len = 0 }) → f ≡ fillS (5 - n .len) ks vs n c next →
     r ≡ shutOf (fitOf (length out) at 112) (f .child) at → out′ ≡ outOf (fitOf (length out) at 112) out at (innerBytes at (f .node) (f .child)) →
     transitS ks vs (stateOf ns o c count next at) out ≡ record { b = stateOf ns (o - 1) (r .child) count (f .next) (r .at); out = out′ }
@@ -250,7 +249,7 @@ cross-by ks vs ns o c count next at out n f r out′ h en ef er eo =
     mk : Shut → List ℕ → St
     mk x y = record { b = stateOf ns (o - 1) (x .child) count (f .next) (x .at); out = y }
 
-pub rise-by : (ks vs : List ℕ) (p : ℕ) (ns : List OpenInner) (o : ℕ) (c : Child) (count next at : ℕ) (out : List ℕ) (n : OpenInner) (r : Shut) (out′ : List ℕ) →
+pub rise-by : (ks vs : List ℕ) (p : ℕ) (ns : List OpenInner) (o : ℕ) (c : ChildPos) (count next at : ℕ) (out : List ℕ) (n : OpenInner) (r : Shut) (out′ : List ℕ) →
     0 < o → n ≡ getD ns (o - 1) (record { slots = []; len = 0 }) → 5 ≤ n .len →
     r ≡ shutOf (fitOf (length out) at 112) c at → out′ ≡ outOf (fitOf (length out) at 112) out at (innerBytes at n c) →
     climbS o ks vs p (stateOf ns o c count next at) out ≡ climbS (o - 1) ks vs (p + 1) (stateOf ns (o - 1) (r .child) count next (r .at)) out′
@@ -281,16 +280,16 @@ strides-none ks vs ll s out o ns p few five en =
 pub strides-more : (ks vs : List ℕ) (ll : ℕ) (s : Low) (out₀ : List ℕ) (r : Low) (out : List ℕ) → Strides ks vs ll s out₀ r out → length ks ≡ length vs → r .node .len < 5 →
     (end : ℕ) → Told (Ends end) (length out) (r .here .at) (r .here .count) (r .here .next) ll (length ks) →
     (l : OpenLeaf) (out′ : List ℕ) (node : OpenInner) → l ≡ takes 5 ks vs (r .here .next) → out′ ≡ sets out (r .here .at) (leafBytes (l .entries) (l .len)) →
-    node ≡ pushInner (r .node) (entryOf ks vs (r .here .next + 5)) (At (record { 0 = r .here .at })) →
-    Strides ks vs ll s out₀ (record { node = node; here = record { child = Absent; count = r .here .count + 5; next = r .here .next + 6; at = end } }) out′
+    node ≡ pushInner (r .node) (entryOf ks vs (r .here .next + 5)) (closedAt (r .here .at)) →
+    Strides ks vs ll s out₀ (record { node = node; here = record { child = noChild; count = r .here .count + 5; next = r .here .next + 6; at = end } }) out′
 strides-more ks vs ll s out₀ r out st same room end told l out′ node el eo en o ns p few five es =
     let i = o - 1 in
     let ns₁ = set ns i (r .node) in
     let g = st o ns p few five es in
     let q : i < length ns = omega (arith, five) in
     let h = stride-step ks vs ll ns₁ o (r .node) (r .here .child) (r .here .count) (r .here .next) (r .here .at) out p few (length-set ns i (r .node) ∙ five) same (getD-set-same ns i (r .node) _ q) room (told .0 .1) (told .1 .0) (told .1 .1) l out′ el eo in
-    let f : set ns₁ i (pushInner (r .node) (entryOf ks vs (r .here .next + 5)) (At (record { 0 = r .here .at }))) ≡ set ns i node = set-set ns i (r .node) _ ∙ ap (λ (x : OpenInner). set ns i x) (sym en) in
-    let h′ = subst₂ (λ (x : List OpenInner) (y : ℕ). Goes ks vs ll (stateOf ns₁ o (r .here .child) (r .here .count) (r .here .next) (r .here .at)) out (stateOf x o Absent (r .here .count + 5) (r .here .next + 6) y) out′) f (sym (told .0 .0)) h in
+    let f : set ns₁ i (pushInner (r .node) (entryOf ks vs (r .here .next + 5)) (closedAt (r .here .at))) ≡ set ns i node = set-set ns i (r .node) _ ∙ ap (λ (x : OpenInner). set ns i x) (sym en) in
+    let h′ = subst₂ (λ (x : List OpenInner) (y : ℕ). Goes ks vs ll (stateOf ns₁ o (r .here .child) (r .here .count) (r .here .next) (r .here .at)) out (stateOf x o noChild (r .here .count + 5) (r .here .next + 6) y) out′) f (sym (told .0 .0)) h in
     goes-then ks vs ll _ _ _ out₀ out out′ g h′
 
 -- ---- a turn of the loop over leaves
@@ -303,7 +302,7 @@ pub entry-none : (ks vs : List ℕ) (i : ℕ) → length ks ≤ i → entryAt ks
 entry-none ks vs i h = rw (le-ltb i (length ks) h)
 
 -- Between two leaves.
-pub record Going (ks vs : List ℕ) (ll : ℕ) (s₀ : Building) (out₀ : List ℕ) (inners : OpenInners) (child : Child) (count next at below : ℕ) (out : List ℕ) : Type 0 where
+pub record Going (ks vs : List ℕ) (ll : ℕ) (s₀ : Building) (out₀ : List ℕ) (inners : OpenInners) (child : ChildPos) (count next at below : ℕ) (out : List ℕ) : Type 0 where
   pub five : length (inners .nodes) ≡ 5
   pub few : inners .len + below ≤ 5
   pub upto : next ≤ length ks
@@ -311,7 +310,7 @@ pub record Going (ks vs : List ℕ) (ll : ℕ) (s₀ : Building) (out₀ : List 
   pub long : length out ≡ length out₀
   pub goes : Goes ks vs ll s₀ out₀ (record { leaf = newLeaf; inners = reopen below inners; child = child; count = count; next = next; at = at }) out
 
-pub going-open : (ks vs : List ℕ) (ll : ℕ) (s₀ : Building) (out₀ : List ℕ) (inners : OpenInners) (child : Child) (count next at below : ℕ) (out : List ℕ) (fresh : OpenInner) →
+pub going-open : (ks vs : List ℕ) (ll : ℕ) (s₀ : Building) (out₀ : List ℕ) (inners : OpenInners) (child : ChildPos) (count next at below : ℕ) (out : List ℕ) (fresh : OpenInner) →
     Going ks vs ll s₀ out₀ inners child count next at below out → 0 < below → fresh ≡ newInner →
     Going ks vs ll s₀ out₀ (record { nodes = set (inners .nodes) (inners .len) fresh; len = inners .len + 1 }) child count next at (below - 1) out
 going-open ks vs ll s₀ out₀ inners child count next at below out fresh g h ef =
@@ -325,7 +324,7 @@ going-open ks vs ll s₀ out₀ inners child count next at below out fresh g h e
     }
 
 -- With nothing to open, and after a stride.
-pub going-strode : (ks vs : List ℕ) (ll : ℕ) (s₀ : Building) (out₀ : List ℕ) (inners : OpenInners) (child : Child) (count next at below : ℕ) (out : List ℕ) →
+pub going-strode : (ks vs : List ℕ) (ll : ℕ) (s₀ : Building) (out₀ : List ℕ) (inners : OpenInners) (child : ChildPos) (count next at below : ℕ) (out : List ℕ) →
     Going ks vs ll s₀ out₀ inners child count next at below out → below ≤ 0 → (i : ℕ) → i ≡ inners .len - 1 → (node : OpenInner) → node ≡ getD (inners .nodes) i (record { slots = []; len = 0 }) →
     (s : Low) (out′ : List ℕ) → StridesAt ks vs ll (inners .len) (record { node = node; here = record { child = child; count = count; next = next; at = at } }) out s out′ →
     Goes ks vs ll s₀ out₀ (stateOf (set (inners .nodes) i (s .node)) (inners .len) (s .here .child) (s .here .count) (s .here .next) (s .here .at)) out′
@@ -344,7 +343,7 @@ ended ks vs ll s₀ out₀ t out g h =
     (ap (λ (x : St). leftOf (x .b)) (sym e), ap (λ (x : St). x .out) (sym e))
 
 -- Fewer entries are left than a leaf takes.
-pub ended-short : (ks vs : List ℕ) (ll : ℕ) (s₀ : Building) (out₀ : List ℕ) (ns : List OpenInner) (o : ℕ) (child : Child) (count next at : ℕ) (out : List ℕ) →
+pub ended-short : (ks vs : List ℕ) (ll : ℕ) (s₀ : Building) (out₀ : List ℕ) (ns : List OpenInner) (o : ℕ) (child : ChildPos) (count next at : ℕ) (out : List ℕ) →
     Goes ks vs ll s₀ out₀ (stateOf ns o child count next at) out → o ≤ 5 → length ks ≡ length vs → next ≤ length ks → (k : ℕ) → Sized k count ll → length ks - next < k →
     (record { child = child; at = at } ≡ leftOf (runS (length ks) ks vs ll s₀ out₀ .b)) × (out ≡ runS (length ks) ks vs ll s₀ out₀ .out)
 ended-short ks vs ll s₀ out₀ ns o child count next at out g few same upto k z h =
@@ -357,7 +356,7 @@ ended-short ks vs ll s₀ out₀ ns o child count next at out g few same upto k 
     left (inl y) = inr (y .0)
     left (inr y) = inl (omega (arith, y .0))
 
-pub main-goes : (ks vs : List ℕ) (ll : ℕ) (ns : List OpenInner) (o : ℕ) (child : Child) (count next at : ℕ) (out : List ℕ) → o ≤ 5 → length ks ≡ length vs →
+pub main-goes : (ks vs : List ℕ) (ll : ℕ) (ns : List OpenInner) (o : ℕ) (child : ChildPos) (count next at : ℕ) (out : List ℕ) → o ≤ 5 → length ks ≡ length vs →
     (k : ℕ) → Sized k count ll → next + k ≤ length ks →
     (l : OpenLeaf) → l ≡ takes k ks vs next → (t : Shut) (o₂ : List ℕ) → t ≡ shutOf (fitOf (length out) at 96) child at → o₂ ≡ outOf (fitOf (length out) at 96) out at (leafBytes (l .entries) (l .len)) →
     (x : Crossed) (o₃ : List ℕ) → CrossesAt ks vs ll (count + k) ns o (t .child) (next + k) (t .at) o₂ x o₃ →
@@ -438,7 +437,7 @@ ended-turn ks vs ll s₀ out₀ ns o p out out′ g few same upto (k, (z, (h, e)
     (r .0, e ∙ r .1)
 
 -- All is closed.
-pub going-closed : (ks vs : List ℕ) (ll : ℕ) (s₀ : Building) (out₀ : List ℕ) (ns : List OpenInner) (o p : ℕ) (child : Child) (count next next′ at below : ℕ) (out : List ℕ) →
+pub going-closed : (ks vs : List ℕ) (ll : ℕ) (s₀ : Building) (out₀ : List ℕ) (ns : List OpenInner) (o p : ℕ) (child : ChildPos) (count next next′ at below : ℕ) (out : List ℕ) →
     let c = climbS o ks vs p (stateOf ns o child count next at) out in
     Goes ks vs ll s₀ out₀ (c .b) (c .out) → o ≡ 0 → below ≡ 0 → next′ ≡ next → length ns ≡ 5 → next′ ≤ length ks → count ≤ next′ → length out ≡ length out₀ →
     Going ks vs ll s₀ out₀ (record { nodes = ns; len = 0 }) child count next′ at below out
@@ -448,12 +447,12 @@ going-closed ks vs ll s₀ out₀ ns o p child count next next′ at below out g
     record { five = five; few = omega arith; upto = u; seen = s; long = l; goes = rw (b, n) g₂ }
 
 -- A node with room takes an entry.
-pub going-grown : (ks vs : List ℕ) (ll : ℕ) (s₀ : Building) (out₀ : List ℕ) (ns : List OpenInner) (o p : ℕ) (child : Child) (count next next′ at : ℕ) (out : List ℕ) →
+pub going-grown : (ks vs : List ℕ) (ll : ℕ) (s₀ : Building) (out₀ : List ℕ) (ns : List OpenInner) (o p : ℕ) (child : ChildPos) (count next next′ at : ℕ) (out : List ℕ) →
     let c = climbS o ks vs p (stateOf ns o child count next at) out in
     Goes ks vs ll s₀ out₀ (c .b) (c .out) → (o ≡ 0 → ⊥) → next′ ≡ next → Roomy ns o → (e : Pair) → entryAt ks vs next′ ≡ Got e →
     (grown : OpenInner) → grown ≡ pushInner (getD ns (o - 1) (record { slots = []; len = 0 })) e child →
     length ns ≡ 5 → o + p ≤ 5 → count ≤ next′ → length out ≡ length out₀ →
-    Going ks vs ll s₀ out₀ (record { nodes = set ns (o - 1) grown; len = o }) Absent count (next′ + 1) at p out
+    Going ks vs ll s₀ out₀ (record { nodes = set ns (o - 1) grown; len = o }) noChild count (next′ + 1) at p out
 going-grown ks vs ll s₀ out₀ ns o p child count next next′ at out g z n room e h grown eg five few s l =
     let q : 0 < o = omega (arith, z) in
     let h′ : entryAt ks vs next ≡ Got e = rw n at h in
@@ -470,7 +469,7 @@ going-grown ks vs ll s₀ out₀ ns o p child count next next′ at out g z n ro
     }
 
 -- A node with room, and no entry is left.
-pub ended-low : (ks vs : List ℕ) (ll : ℕ) (s₀ : Building) (out₀ : List ℕ) (ns : List OpenInner) (o p : ℕ) (child : Child) (count next next′ at : ℕ) (out : List ℕ) →
+pub ended-low : (ks vs : List ℕ) (ll : ℕ) (s₀ : Building) (out₀ : List ℕ) (ns : List OpenInner) (o p : ℕ) (child : ChildPos) (count next next′ at : ℕ) (out : List ℕ) →
     let c = climbS o ks vs p (stateOf ns o child count next at) out in
     Goes ks vs ll s₀ out₀ (c .b) (c .out) → (o ≡ 0 → ⊥) → next′ ≡ next → Roomy ns o → entryAt ks vs next′ ≡ End →
     (record { child = child; at = at } ≡ leftOf (runS (length ks) ks vs ll s₀ out₀ .b)) × (out ≡ runS (length ks) ks vs ll s₀ out₀ .out)
@@ -483,7 +482,7 @@ ended-low ks vs ll s₀ out₀ ns o p child count next next′ at out g z n room
 
 -- ---- an index that is known, and the open nodes at the start
 
-pub push-at : (n : OpenInner) (e : Pair) (c : Child) (k : ℕ) → n .len ≡ k →
+pub push-at : (n : OpenInner) (e : Pair) (c : ChildPos) (k : ℕ) → n .len ≡ k →
     record { slots = set (n .slots) k (record { key = e .key; value = e .value; lesser = c }); len = n .len + 1 } ≡ pushInner n e c
 push-at n e c k h = ap (λ (j : ℕ). mk j) (sym h)
   where
@@ -491,7 +490,7 @@ push-at n e c k h = ap (λ (j : ℕ). mk j) (sym h)
     mk j = record { slots = set (n .slots) j (record { key = e .key; value = e .value; lesser = c }); len = n .len + 1 }
 
 -- The same, where the arms of a match have met.
-pub push-came : (n x : OpenInner) (e : Pair) (c : Child) (k : ℕ) → n .len ≡ k → x ≡ record { slots = set (n .slots) k (record { key = e .key; value = e .value; lesser = c }); len = n .len } →
+pub push-came : (n x : OpenInner) (e : Pair) (c : ChildPos) (k : ℕ) → n .len ≡ k → x ≡ record { slots = set (n .slots) k (record { key = e .key; value = e .value; lesser = c }); len = n .len } →
     record { slots = x .slots; len = n .len + 1 } ≡ pushInner n e c
 push-came n x e c k h f = ap (λ (y : OpenInner). mk y) f ∙ push-at n e c k h
   where

@@ -9,7 +9,7 @@ use native.Mathlib.Decide.{decLt, ℕ-discrete}
 use borrow.Author.Tests.{lt-ltb, le-ltb, le-leb}
 use lib.ListN.{length, getD, set, drop, replicate, length-append, length-drop, length-set, length-replicate, length-map}
 use lib.Seq.{sets, set-append-seam, getD-set-same, getD-set-other, drop-cons, length-sets}
-use lib.Dec.{lit≤}
+use lib.Dec.{lit≤, ltb}
 use Rattle.format.specs.declared.Child.{Child}
 use Rattle.format.specs.declared.Child.the-variants.{Absent, At}
 use Rattle.format.specs.Layout.{layout32}
@@ -25,12 +25,13 @@ use Rattle.format.specs.Laws.Turns.{climb-close, climb-grow, turn-put, turn-clo
 use Rattle.builder.specs.declared.map.Next.the-variants.{Got, End}
 use Rattle.builder.specs.declared.map.Fit.the-variants.{End as Ends}
 use Rattle.builder.specs.declared.map.Filled.{Filled}
+use Rattle.builder.specs.declared.inline_vec.ChildPos.{ChildPos}
 use Rattle.builder.specs.declared.inline_vec.Pair.{Pair as Given}
 use Rattle.builder.specs.declared.inline_vec.Slot.{Slot as Held}
 use Rattle.builder.specs.declared.inline_vec.OpenLeaf.{OpenLeaf}
 use Rattle.builder.specs.declared.inline_vec.OpenInner.{OpenInner}
 use Rattle.builder.specs.declared.ser_vec.OpenInners.{OpenInners}
-use Rattle.builder.specs.Nodes.{noPair, noSlot, newInner, pushLeaf, pushInner, pushInners, popInners, noInner, lastInner, setLast, flat, lessersBytes, leafBytes, innerBytes}
+use Rattle.builder.specs.Nodes.{childAt, noChild, closedAt, noPair, noSlot, newInner, pushLeaf, pushInner, pushInners, popInners, noInner, lastInner, setLast, flat, pickBytes, leafBytes, innerBytes}
 use Rattle.builder.specs.Machine.{Building, St, entryAt, fitOf, takeB, shutLeaf, shutInner, fillS, transitS, withFilled, withInners, reopen, growAt, climbS, turnS, runS}
 use Rattle.builder.proofs.Answers.{shut-leaf-by, shut-inner-by, fill-got, fill-end, transit-none, transit-some, climb-none, climb-end, climb-got, climb-shut′}
 use Rattle.builder.proofs.Kept.{turn-last, turn-more, turn-full, run-got, run-end, shut-leaf-same, transit-kept, turn-kept}
@@ -40,8 +41,16 @@ use Rattle.builder.proofs.Kept.{turn-last, turn-more, turn-full, run-go
 abbrev pub given : Pair → Given
 given e = record { key = e .key; value = e .value }
 
+abbrev pub posOf : Child → ChildPos
+posOf Absent = noChild
+posOf (At p) = closedAt (p .0)
+
+pub child-of : (c : Child) → childAt (posOf c .0) ≡ c
+child-of Absent = refl
+child-of (At p) = ap childAt (add-one (p .0))
+
 abbrev pub held : Slot → Held
-held s = record { key = s .pair .key; value = s .pair .value; lesser = s .lesser }
+held s = record { key = s .pair .key; value = s .pair .value; lesser = posOf (s .lesser) }
 
 abbrev none : Pair
 none = record { key = 0; value = 0 }
@@ -114,7 +123,7 @@ leaf-push xs e h = leaf-path (pad-set given noPair xs e h) (sym (length-append x
     leaf-path : {a b : List Given} {n m : ℕ} → a ≡ b → n ≡ m → _≡_ {A = OpenLeaf} (record { entries = a; len = n }) (record { entries = b; len = m })
     leaf-path p q = λ i. record { entries = p i; len = q i }
 
-inner-push : (n : List Slot) (e : Pair) (c : Child) → length n < 5 → pushInner (innerOn n) (given e) c ≡ innerOn (n ++ (slotOf e c ∷ []))
+inner-push : (n : List Slot) (e : Pair) (c : Child) → length n < 5 → pushInner (innerOn n) (given e) (posOf c) ≡ innerOn (n ++ (slotOf e c ∷ []))
 inner-push n e c h = inner-path (pad-set held noSlot n (slotOf e c) h) (sym (length-append n (slotOf e c ∷ [])))
   where
     inner-path : {a b : List Held} {n m : ℕ} → a ≡ b → n ≡ m → _≡_ {A = OpenInner} (record { slots = a; len = n }) (record { slots = b; len = m })
@@ -141,20 +150,42 @@ lesser-length f zero cs = refl
 lesser-length f (suc n) [] = omega (arith, lesser-length (f + 4) n [])
 lesser-length f (suc n) (c ∷ cs) = simp (length-append, length-offset) (omega (arith, lesser-length (f + 4) n cs))
 
--- An inner node whose greater child's field is l.
-abbrev before : ℕ → List Slot → List ℕ → List ℕ
-before p n l =
-    flat 8 (1 ∷ (map (λ (s : Held). s .key) (pad held noSlot n) ++ map (λ (s : Held). s .value) (pad held noSlot n)))
-    ++ (lessersBytes (p + 88) 0 (length n) (pad held noSlot n) ++ l)
+-- The fields of the lesser children from the i-th of n on.
+abbrev fieldsOf : ℕ → ℕ → ℕ → List Child → List ℕ
+fieldsOf f i n [] = []
+fieldsOf f i n (c ∷ cs) = pickBytes (ltb i n) (offsetBytes layout32 f c) (leBytes 4 0) ++ fieldsOf (f + 4) (suc i) n cs
 
-inner-bytes : (p : ℕ) (n : List Slot) (g : Child) → length n ≤ 5 → innerBytes p (innerOn n) g ≡ Tree.innerBytes layout32 p n g
+-- An inner node with its lesser children and its greater one.
+abbrev nodeOf : ℕ → List Slot → List Child → Child → List ℕ
+nodeOf p n cs g =
+    flat 8 (1 ∷ (map (λ (s : Held). s .key) (pad held noSlot n) ++ map (λ (s : Held). s .value) (pad held noSlot n)))
+    ++ (fieldsOf (p + 88) 0 (length n) cs ++ offsetBytes layout32 (p + 88 + 20) g)
+
+abbrev before : ℕ → List Slot → List Child → List ℕ → List ℕ
+before p n cs l =
+    flat 8 (1 ∷ (map (λ (s : Held). s .key) (pad held noSlot n) ++ map (λ (s : Held). s .value) (pad held noSlot n)))
+    ++ (fieldsOf (p + 88) 0 (length n) cs ++ l)
+
+inner-bytes : (p : ℕ) (n : List Slot) (g : Child) → length n ≤ 5 → innerBytes p (innerOn n) (posOf g) ≡ Tree.innerBytes layout32 p n g
 unfolding innerBytes Tree.innerBytes head leBytes
-inner-bytes p [] g h = ap (before p []) (sym (append-nil (offsetBytes layout32 (p + 88 + 20) g)))
-inner-bytes p (a ∷ []) g h = ap (before p (a ∷ [])) (sym (append-nil (offsetBytes layout32 (p + 88 + 20) g)))
-inner-bytes p (a ∷ b ∷ []) g h = ap (before p (a ∷ b ∷ [])) (sym (append-nil (offsetBytes layout32 (p + 88 + 20) g)))
-inner-bytes p (a ∷ b ∷ c ∷ []) g h = ap (before p (a ∷ b ∷ c ∷ [])) (sym (append-nil (offsetBytes layout32 (p + 88 + 20) g)))
-inner-bytes p (a ∷ b ∷ c ∷ d ∷ []) g h = ap (before p (a ∷ b ∷ c ∷ d ∷ [])) (sym (append-nil (offsetBytes layout32 (p + 88 + 20) g)))
-inner-bytes p (a ∷ b ∷ c ∷ d ∷ e ∷ []) g h = ap (before p (a ∷ b ∷ c ∷ d ∷ e ∷ [])) (sym (append-nil (offsetBytes layout32 (p + 88 + 20) g)))
+inner-bytes p [] g h =
+    (λ i. nodeOf p [] (Absent ∷ Absent ∷ Absent ∷ Absent ∷ Absent ∷ []) (child-of g i))
+    ∙ ap (before p [] (Absent ∷ Absent ∷ Absent ∷ Absent ∷ Absent ∷ [])) (sym (append-nil (offsetBytes layout32 (p + 88 + 20) g)))
+inner-bytes p (a ∷ []) g h =
+    (λ i. nodeOf p (a ∷ []) (child-of (a .lesser) i ∷ Absent ∷ Absent ∷ Absent ∷ Absent ∷ []) (child-of g i))
+    ∙ ap (before p (a ∷ []) (a .lesser ∷ Absent ∷ Absent ∷ Absent ∷ Absent ∷ [])) (sym (append-nil (offsetBytes layout32 (p + 88 + 20) g)))
+inner-bytes p (a ∷ b ∷ []) g h =
+    (λ i. nodeOf p (a ∷ b ∷ []) (child-of (a .lesser) i ∷ child-of (b .lesser) i ∷ Absent ∷ Absent ∷ Absent ∷ []) (child-of g i))
+    ∙ ap (before p (a ∷ b ∷ []) (a .lesser ∷ b .lesser ∷ Absent ∷ Absent ∷ Absent ∷ [])) (sym (append-nil (offsetBytes layout32 (p + 88 + 20) g)))
+inner-bytes p (a ∷ b ∷ c ∷ []) g h =
+    (λ i. nodeOf p (a ∷ b ∷ c ∷ []) (child-of (a .lesser) i ∷ child-of (b .lesser) i ∷ child-of (c .lesser) i ∷ Absent ∷ Absent ∷ []) (child-of g i))
+    ∙ ap (before p (a ∷ b ∷ c ∷ []) (a .lesser ∷ b .lesser ∷ c .lesser ∷ Absent ∷ Absent ∷ [])) (sym (append-nil (offsetBytes layout32 (p + 88 + 20) g)))
+inner-bytes p (a ∷ b ∷ c ∷ d ∷ []) g h =
+    (λ i. nodeOf p (a ∷ b ∷ c ∷ d ∷ []) (child-of (a .lesser) i ∷ child-of (b .lesser) i ∷ child-of (c .lesser) i ∷ child-of (d .lesser) i ∷ Absent ∷ []) (child-of g i))
+    ∙ ap (before p (a ∷ b ∷ c ∷ d ∷ []) (a .lesser ∷ b .lesser ∷ c .lesser ∷ d .lesser ∷ Absent ∷ [])) (sym (append-nil (offsetBytes layout32 (p + 88 + 20) g)))
+inner-bytes p (a ∷ b ∷ c ∷ d ∷ e ∷ []) g h =
+    (λ i. nodeOf p (a ∷ b ∷ c ∷ d ∷ e ∷ []) (child-of (a .lesser) i ∷ child-of (b .lesser) i ∷ child-of (c .lesser) i ∷ child-of (d .lesser) i ∷ child-of (e .lesser) i ∷ []) (child-of g i))
+    ∙ ap (before p (a ∷ b ∷ c ∷ d ∷ e ∷ []) (a .lesser ∷ b .lesser ∷ c .lesser ∷ d .lesser ∷ e .lesser ∷ [])) (sym (append-nil (offsetBytes layout32 (p + 88 + 20) g)))
 inner-bytes p (a ∷ b ∷ c ∷ d ∷ e ∷ f ∷ n) g h = absurd (omega arith)
 
 inner-112 : (p : ℕ) (n : List Slot) (g : Child) → length (Tree.innerBytes layout32 p n g) ≡ 112
@@ -218,7 +249,7 @@ stack-reopen (suc p) i st w h =
 pub record Sim (ks vs : List ℕ) (out₀ : List ℕ) (at₀ : ℕ) (s : Building) (out : List ℕ) (a : State) : Type 0 where
   pub leaf : s .leaf ≡ leafOn (a .openLeaf)
   pub stack : Stacked (s .inners) (a .openInners)
-  pub child : s .child ≡ a .childPos
+  pub child : s .child ≡ posOf (a .childPos)
   pub count : s .count ≡ a .leafEntries
   pub rest : drop (s .next) (pairs ks vs) ≡ a .iter
   pub at : s .at ≡ a .pos
@@ -240,7 +271,7 @@ shut-leaf-sim ks vs out₀ at₀ s out a w h r =
     (record {
       leaf = refl;
       stack = w .stack;
-      child = ap (λ (p : ℕ). At (record { 0 = p })) (w .at);
+      child = ap closedAt (w .at);
       count = w .count;
       rest = w .rest;
       at = ap (λ (p : ℕ). p + 96) (w .at);
@@ -265,14 +296,14 @@ shut-inner-sim ks vs out₀ at₀ n s out ss a w e h r =
     (record {
       leaf = w .leaf;
       stack = w .stack;
-      child = ap (λ (p : ℕ). At (record { 0 = p })) (w .at);
+      child = ap closedAt (w .at);
       count = w .count;
       rest = w .rest;
       at = ap (λ (p : ℕ). p + 112) (w .at);
       place = omega (arith, w .place);
       written = ap (λ (x : OpenInner). sets out (s .at) (innerBytes (s .at) x (s .child))) e
-          ∙ ap (λ (x : Child). sets out (s .at) (innerBytes (s .at) (innerOn ss) x)) (w .child)
-          ∙ ap (λ (p : ℕ). sets out (s .at) (innerBytes p (innerOn ss) (a .childPos))) (w .at)
+          ∙ ap (λ (x : ChildPos). sets out (s .at) (innerBytes (s .at) (innerOn ss) x)) (w .child)
+          ∙ ap (λ (p : ℕ). sets out (s .at) (innerBytes p (innerOn ss) (posOf (a .childPos)))) (w .at)
           ∙ ap (λ (x : List ℕ). sets out (s .at) x) (inner-bytes (a .pos) ss (a .childPos) h)
           ∙ ap (λ (p : ℕ). sets out p lb) (w .at ∙ w .place)
           ∙ ap (λ (o : List ℕ). sets o (at₀ + length (a .bytes)) lb) (w .written)
@@ -335,7 +366,7 @@ module _ (ks vs out₀ : List ℕ) (at₀ : ℕ) (same : length ks ≡ length vs
   grow-sim st n p s out a e es w h l r =
       let n′ = n ++ (slotOf e (a .childPos) ∷ []) in
       let q : pushInner (lastInner (s .inners)) (given e) (s .child) ≡ innerOn n′ =
-      ap (λ (x : OpenInner). pushInner x (given e) (s .child)) (stack-last (s .inners) n st (w .stack)) ∙ ap (λ (x : Child). pushInner (innerOn n) (given e) x) (w .child) ∙ inner-push n e (a .childPos) h in
+      ap (λ (x : OpenInner). pushInner x (given e) (s .child)) (stack-last (s .inners) n st (w .stack)) ∙ ap (λ (x : ChildPos). pushInner (innerOn n) (given e) x) (w .child) ∙ inner-push n e (a .childPos) h in
       let ln : length n′ ≡ length n + 1 = length-append n (slotOf e (a .childPos) ∷ []) in
       record {
         leaf = w .leaf;
@@ -394,22 +425,22 @@ module _ (ks vs out₀ : List ℕ) (at₀ : ℕ) (same : length ks ≡ length vs
 
   record Fills (x : Filled) (f : Taken layout32) : Type 0 where
     node : x .node ≡ innerOn (f .node)
-    child : x .child ≡ f .childPos
+    child : x .child ≡ posOf (f .childPos)
     rest : drop (x .next) (pairs ks vs) ≡ f .iter
     short : length (f .node) ≤ 5
 
-  fill-sim : (k : ℕ) (n : List Slot) (c : Child) (i : ℕ) (es : List Pair) → drop i (pairs ks vs) ≡ es → length n + k ≤ 5 → Fills (fillS k ks vs (innerOn n) c i) (takeEntries layout32 k n c es)
+  fill-sim : (k : ℕ) (n : List Slot) (c : Child) (i : ℕ) (es : List Pair) → drop i (pairs ks vs) ≡ es → length n + k ≤ 5 → Fills (fillS k ks vs (innerOn n) (posOf c) i) (takeEntries layout32 k n c es)
   unfolding fillS takeEntries
   fill-sim zero n c i es r l = record { node = refl; child = refl; rest = r; short = omega arith }
   fill-sim (suc k) n c i [] r l =
-      subst (λ (x : Filled). Fills x (record { node = n; childPos = c; iter = [] })) (sym (fill-end (suc k) ks vs (innerOn n) c i (entry-none ks vs i same r)))
+      subst (λ (x : Filled). Fills x (record { node = n; childPos = c; iter = [] })) (sym (fill-end (suc k) ks vs (innerOn n) (posOf c) i (entry-none ks vs i same r)))
       (record { node = refl; child = refl; rest = r; short = omega arith })
   fill-sim (suc k) n c i (e ∷ es) r l =
       let o = entry-some ks vs i e es same r in
       let n′ = n ++ (slotOf e c ∷ []) in
       let ln : length n′ ≡ length n + 1 = length-append n (slotOf e c ∷ []) in
       subst (λ (x : Filled). Fills x (takeEntries layout32 k n′ Absent es))
-      (ap (λ (y : OpenInner). fillS k ks vs y Absent (i + 1)) (sym (inner-push n e c (omega arith))) ∙ fill-got k ks vs (innerOn n) c i (given e) (o .got))
+      (ap (λ (y : OpenInner). fillS k ks vs y noChild (i + 1)) (sym (inner-push n e c (omega arith))) ∙ fill-got k ks vs (innerOn n) (posOf c) i (given e) (o .got))
       (fill-sim k n′ Absent (i + 1) es (o .rest) (omega arith))
 
   transit-sim : (st : List (List Slot)) (s : Building) (out : List ℕ) (a : State) → On s out (withStack a st) → transit layout32 st (withStack a st) .pos ≤ length out₀
@@ -422,8 +453,8 @@ module _ (ks vs out₀ : List ℕ) (at₀ : ℕ) (same : length ks ≡ length vs
       let m = lastInner (s .inners) in
       let x = fillS (5 - m .len) ks vs m (s .child) (s .next) in
       let f = takeEntries layout32 (5 - length n) n (a .childPos) (a .iter) in
-      let e : fillS (5 - length n) ks vs (innerOn n) (a .childPos) (s .next) ≡ x =
-      sym (ap (λ (y : OpenInner). fillS (5 - y .len) ks vs y (s .child) (s .next)) low ∙ ap (λ (y : Child). fillS (5 - length n) ks vs (innerOn n) y (s .next)) (w .child)) in
+      let e : fillS (5 - length n) ks vs (innerOn n) (posOf (a .childPos)) (s .next) ≡ x =
+      sym (ap (λ (y : OpenInner). fillS (5 - y .len) ks vs y (s .child) (s .next)) low ∙ ap (λ (y : ChildPos). fillS (5 - length n) ks vs (innerOn n) y (s .next)) (w .child)) in
       let g : Fills x f = subst (λ (y : Filled). Fills y f) e (fill-sim (5 - length n) n (a .childPos) (s .next) (a .iter) (w .rest) (omega (arith, w .stack .holds .1 .0))) in
       let b : State = record { openLeaf = a .openLeaf; openInners = st; childPos = f .childPos; leafEntries = a .leafEntries; iter = f .iter; pos = a .pos; bytes = a .bytes; panics = a .panics } in
       let w′ : Sim ks vs out₀ at₀ (withFilled s (popInners (s .inners)) x) out b =

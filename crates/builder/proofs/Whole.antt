@@ -9,6 +9,7 @@ use borrow.Author.Tests.{lt-ltb, le-ltb}
 use lib.ListN.{length, replicate, length-append, length-replicate}
 use lib.Dec.{lit<, lit≤}
 use Rattle.format.specs.declared.Child.{Child}
+use Rattle.builder.specs.declared.inline_vec.ChildPos.{ChildPos}
 use Rattle.format.specs.declared.Child.the-variants.{Absent}
 use Rattle.format.specs.Layout.{layout32}
 use Rattle.format.specs.Bytes.{leBytes, put}
@@ -26,13 +27,13 @@ use Rattle.format.specs.Laws.Height.{fitting}
 use Rattle.format.specs.Laws.Streaming.{Agrees, run-agrees, tree-there}
 use Rattle.format.specs.Laws.Built32.{length-pairs}
 use Rattle.builder.specs.declared.ser_vec.OpenInners.{OpenInners}
-use Rattle.builder.specs.Nodes.{newInners}
+use Rattle.builder.specs.Nodes.{childAt, noChild, newInners}
 use Rattle.builder.specs.Machine.{St, runS, reopen}
 use Rattle.builder.specs.Leaves.{stateOf}
 use Rattle.builder.specs.Size.{weight, endOf}
 use Rattle.builder.proofs.Laws.{join}
 use Rattle.builder.proofs.Kept.{reopen-len}
-use Rattle.builder.proofs.Lists.{Sim, Stacked, stack-reopen, run-sim}
+use Rattle.builder.proofs.Lists.{child-of, Sim, Stacked, stack-reopen, run-sim}
 use Rattle.builder.proofs.Weights.{tree-weighs}
 
 -- ---- the height
@@ -85,14 +86,14 @@ height-log n = omega arith
 -- What the loop leaves: the tree's bytes, where its root is, and where the next byte goes.
 pub record Wrote (t : St) (b : Branch) (out : List ℕ) (at : ℕ) : Type 0 where
   pub bytes : t .out ≡ put out at (writeBranch layout32 b at)
-  pub child : t .b .child ≡ childOf layout32 b at
+  pub child : childAt (t .b .child .0) ≡ childOf layout32 b at
   pub place : t .b .at ≡ at + lengthBranch layout32 b
   pub size : length (writeBranch layout32 b at) ≡ lengthBranch layout32 b
 
 wrote-all : (ks vs out : List ℕ) (at : ℕ) → length ks ≡ length vs → (all : List Pair) → pairs ks vs ≡ all → 0 < length all → length all ≤ 40000
     → at + lengthBranch layout32 (treeOf layout32 all) ≤ length out
     → let n = length all in
-    let i = reopen (height layout32 n - 1) newInners in Wrote (runS n ks vs (lastLevel layout32 n) (stateOf (i .nodes) (i .len) Absent 0 0 at) out) (treeOf layout32 all) out at
+    let i = reopen (height layout32 n - 1) newInners in Wrote (runS n ks vs (lastLevel layout32 n) (stateOf (i .nodes) (i .len) noChild 0 0 at) out) (treeOf layout32 all) out at
 wrote-all ks vs out at same [] eq p few r = absurd (not-suc-le-zero p)
 wrote-all ks vs out at same (e ∷ es) eq p few r =
     let n = length (e ∷ es) in
@@ -106,12 +107,12 @@ wrote-all ks vs out at same (e ∷ es) eq p few r =
     let A : Agrees layout32 t b at = run-agrees layout32 (omega arith) e es at in
     let st : Stacked i (replicate d []) =
     subst (λ (x : List (List Slot)). Stacked i x) (append-nil (replicate d [])) (stack-reopen d newInners [] (record { len = refl; five = refl; holds = tt }) (omega (arith, low .low))) in
-    let start : Sim ks vs out at (stateOf (i .nodes) (i .len) Absent 0 0 at) out a =
+    let start : Sim ks vs out at (stateOf (i .nodes) (i .len) noChild 0 0 at) out a =
     record { leaf = refl; stack = st; child = refl; count = refl; rest = eq; at = refl; place = omega arith; written = refl } in
-    let v = run-sim ks vs out at same n ll (stateOf (i .nodes) (i .len) Absent 0 0 at) out a start (lit< tt) (omega (arith, reopen-len d newInners, low .low)) (omega (arith, A .pos)) in
+    let v = run-sim ks vs out at same n ll (stateOf (i .nodes) (i .len) noChild 0 0 at) out a start (lit< tt) (omega (arith, reopen-len d newInners, low .low)) (omega (arith, A .pos)) in
     record {
       bytes = v .written ∙ ap (λ (x : List ℕ). put out at x) (A .bytes);
-      child = v .child ∙ A .root;
+      child = ap (λ (c : ChildPos). childAt (c .0)) (v .child) ∙ child-of (t .childPos) ∙ A .root;
       place = v .at ∙ A .pos;
       size = sym (ap length (A .bytes)) ∙ sum (length (t .bytes)) (lengthBranch layout32 b) at (t .pos) (v .place) (A .pos);
     }
@@ -125,7 +126,7 @@ module _ (ks vs : List ℕ) (same : length ks ≡ length vs) (p : 0 < length ks)
 
   -- By what the calls of `serialize_from_ordered_iter` answered.
   pub wrote-by : (out : List ℕ) (at : ℕ) → at + lengthBranch layout32 tree ≤ length out → (d q : ℕ) (i : OpenInners) → d ≡ height layout32 (length ks) - 1 → q ≡ 6 ^ d → i ≡ reopen d newInners
-      → Wrote (runS (length ks) ks vs (length ks - (q - 1)) (stateOf (i .nodes) (i .len) Absent 0 0 at) out) tree out at
+      → Wrote (runS (length ks) ks vs (length ks - (q - 1)) (stateOf (i .nodes) (i .len) noChild 0 0 at) out) tree out at
   unfolding lastLevel
   wrote-by out at r d q i ed eq ei =
       let el : length (pairs ks vs) ≡ length ks = length-pairs ks vs same in

@@ -5,10 +5,9 @@ use mathlib.Core.Logic.{_⊎_}
 use mathlib.Core.List.{List, []}
 use lib.ListN.{length, getD, set}
 use lib.Seq.{sets}
-use Rattle.builder.specs.Nodes.{newLeaf, pushLeaf}
+use Rattle.builder.specs.Nodes.{closedAt, newLeaf, pushLeaf}
 use Rattle.builder.specs.Machine.{St, runS, climbS, transitS, Building}
-use Rattle.format.specs.declared.Child.{Child}
-use Rattle.format.specs.declared.Child.the-variants.{At}
+use Rattle.builder.specs.declared.inline_vec.ChildPos.{ChildPos}
 use Rattle.builder.specs.declared.map.Fit.{Fit}
 use Rattle.builder.specs.declared.map.Fit.the-variants.{End as Ends, NoRoom}
 use Rattle.builder.specs.declared.inline_vec.Pair.{Pair}
@@ -30,13 +29,13 @@ takes zero ks vs i = newLeaf
 takes (suc k) ks vs i = pushLeaf (takes k ks vs i) (entryOf ks vs (i + k))
 
 -- The builder between two leaves.
-abbrev pub stateOf : List OpenInner → ℕ → Child → ℕ → ℕ → ℕ → Building
+abbrev pub stateOf : List OpenInner → ℕ → ChildPos → ℕ → ℕ → ℕ → Building
 stateOf ns o child count next at =
     record { leaf = newLeaf; inners = record { nodes = ns; len = o }; child = child; count = count; next = next; at = at }
 
 -- What closing a node leaves.
-abbrev pub shutOf : Fit → Child → ℕ → Shut
-shutOf (Ends e) c at = record { child = At (record { 0 = at }); at = e }
+abbrev pub shutOf : Fit → ChildPos → ℕ → Shut
+shutOf (Ends e) c at = record { child = closedAt at; at = e }
 shutOf NoRoom c at = record { child = c; at = at }
 
 abbrev pub outOf : Fit → List ℕ → ℕ → List ℕ → List ℕ
@@ -61,13 +60,13 @@ Strides ks vs ll s out r out′ =
     Goes ks vs ll (stateOf ns o (s .here .child) (s .here .count) (s .here .next) (s .here .at)) out (stateOf (set ns (o - 1) (r .node)) o (r .here .child) (r .here .count) (r .here .next) (r .here .at)) out′
 
 -- Full nodes are closed.
-abbrev pub Rises : List OpenInner → ℕ → Child → ℕ → List ℕ → Crossed → List ℕ → Type 0
+abbrev pub Rises : List OpenInner → ℕ → ChildPos → ℕ → List ℕ → Crossed → List ℕ → Type 0
 Rises ns o c at out r out′ =
     (ks vs : List ℕ) (count next : ℕ) →
     climbS o ks vs 0 (stateOf ns o c count next at) out ≡ climbS (r .rank) ks vs (o - r .rank) (stateOf ns (r .rank) (r .child) count next (r .at)) out′
 
 -- The lowest open inner node is filled and closed.
-abbrev pub Crosses : List ℕ → List ℕ → List OpenInner → ℕ → Child → ℕ → ℕ → List ℕ → Crossed → List ℕ → Type 0
+abbrev pub Crosses : List ℕ → List ℕ → List OpenInner → ℕ → ChildPos → ℕ → ℕ → List ℕ → Crossed → List ℕ → Type 0
 Crosses ks vs ns o c next at out r out′ =
     (count : ℕ) → transitS ks vs (stateOf ns o c count next at) out ≡ record { b = stateOf ns (r .rank) (r .child) count (r .next) (r .at); out = out′ }
 
@@ -83,7 +82,7 @@ StridesAt ks vs ll o s out r out′ =
     (ns : List OpenInner) → length ns ≡ 5 → getD ns (o - 1) (record { slots = []; len = 0 }) ≡ s .node →
     Goes ks vs ll (stateOf ns o (s .here .child) (s .here .count) (s .here .next) (s .here .at)) out (stateOf (set ns (o - 1) (r .node)) o (r .here .child) (r .here .count) (r .here .next) (r .here .at)) out′
 
-abbrev pub CrossesAt : List ℕ → List ℕ → ℕ → ℕ → List OpenInner → ℕ → Child → ℕ → ℕ → List ℕ → Crossed → List ℕ → Type 0
+abbrev pub CrossesAt : List ℕ → List ℕ → ℕ → ℕ → List OpenInner → ℕ → ChildPos → ℕ → ℕ → List ℕ → Crossed → List ℕ → Type 0
 CrossesAt ks vs ll count ns o c next at out r out′ =
     (count ≡ ll → transitS ks vs (stateOf ns o c count next at) out ≡ record { b = stateOf ns (r .rank) (r .child) count (r .next) (r .at); out = out′ })
     × ((count ≡ ll → ⊥) → st (stateOf ns o c count next at) out ≡ st (stateOf ns (r .rank) (r .child) count (r .next) (r .at)) out′)

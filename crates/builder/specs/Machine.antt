@@ -5,9 +5,8 @@ use mathlib.Core.List.{List}
 use lib.ListN.{length, getD}
 use lib.Seq.{sets}
 use lib.Dec.{ltb, leb, eqb}
-use Rattle.builder.specs.Nodes.{newLeaf, pushLeaf, pushInner, pushInners, popInners, lastInner, setLast, leafBytes, innerBytes}
-use Rattle.format.specs.declared.Child.{Child}
-use Rattle.format.specs.declared.Child.the-variants.{Absent, At}
+use Rattle.builder.specs.Nodes.{noChild, closedAt, newLeaf, pushLeaf, pushInner, pushInners, popInners, lastInner, setLast, leafBytes, innerBytes}
+use Rattle.builder.specs.declared.inline_vec.ChildPos.{ChildPos}
 use Rattle.builder.specs.declared.map.Fit.{Fit}
 use Rattle.builder.specs.declared.map.Fit.the-variants.{End as Ends, NoRoom}
 use Rattle.builder.specs.declared.map.Next.{Next}
@@ -22,7 +21,7 @@ use Rattle.builder.specs.declared.map.Filled.{Filled}
 pub record Building : Type 0 where
   pub leaf : OpenLeaf
   pub inners : OpenInners
-  pub child : Child
+  pub child : ChildPos
   pub count : ℕ
   pub next : ℕ
   pub at : ℕ
@@ -54,7 +53,7 @@ takeB s e = record { leaf = pushLeaf (s .leaf) e; inners = s .inners; child = s 
 abbrev pub shutLeafAt : Fit → Building → List ℕ → St
 shutLeafAt (Ends e) s out =
     record {
-      b = record { leaf = newLeaf; inners = s .inners; child = At (record { 0 = s .at }); count = s .count; next = s .next; at = e };
+      b = record { leaf = newLeaf; inners = s .inners; child = closedAt (s .at); count = s .count; next = s .next; at = e };
       out = sets out (s .at) (leafBytes (s .leaf .entries) (s .leaf .len));
     }
 shutLeafAt NoRoom s out =
@@ -67,7 +66,7 @@ shutLeaf s out = shutLeafAt (fitOf (length out) (s .at) 96) s out
 abbrev pub shutInnerAt : Fit → OpenInner → Building → List ℕ → St
 shutInnerAt (Ends e) n s out =
     record {
-      b = record { leaf = s .leaf; inners = s .inners; child = At (record { 0 = s .at }); count = s .count; next = s .next; at = e };
+      b = record { leaf = s .leaf; inners = s .inners; child = closedAt (s .at); count = s .count; next = s .next; at = e };
       out = sets out (s .at) (innerBytes (s .at) n (s .child));
     }
 shutInnerAt NoRoom n s out = record { b = s; out = out }
@@ -76,11 +75,11 @@ unfoldable pub shutInner : OpenInner → Building → List ℕ → St
 shutInner n s out = shutInnerAt (fitOf (length out) (s .at) 112) n s out
 
 -- An inner node takes entries until it is full, at most k.
-unfoldable pub fillS : ℕ → List ℕ → List ℕ → OpenInner → Child → ℕ → Filled
+unfoldable pub fillS : ℕ → List ℕ → List ℕ → OpenInner → ChildPos → ℕ → Filled
 fillS zero ks vs n c i = record { node = n; child = c; next = i }
 fillS (suc k) ks vs n c i =
     elim (entryAt ks vs i) [
-      | Got e ↦ fillS k ks vs (pushInner n e c) Absent (i + 1)
+      | Got e ↦ fillS k ks vs (pushInner n e c) noChild (i + 1)
       | End ↦ record { node = n; child = c; next = i }
     ]
 
@@ -112,7 +111,7 @@ growAt (Got e) p s =
     record {
       leaf = s .leaf;
       inners = reopen p (setLast (s .inners) (pushInner (lastInner (s .inners)) e (s .child)));
-      child = Absent;
+      child = noChild;
       count = s .count;
       next = s .next + 1;
       at = s .at;

@@ -8,12 +8,25 @@ use Rattle.format.specs.Layout.{layout32}
 use Rattle.format.specs.Bytes.{leBytes}
 use Rattle.format.specs.Tree.{offsetBytes}
 use Rattle.format.specs.declared.Child.{Child}
-use Rattle.format.specs.declared.Child.the-variants.{Absent}
+use Rattle.format.specs.declared.Child.the-variants.{Absent, At}
+use Rattle.builder.specs.declared.inline_vec.ChildPos.{ChildPos}
 use Rattle.builder.specs.declared.inline_vec.Pair.{Pair}
 use Rattle.builder.specs.declared.inline_vec.Slot.{Slot}
 use Rattle.builder.specs.declared.inline_vec.OpenLeaf.{OpenLeaf}
 use Rattle.builder.specs.declared.inline_vec.OpenInner.{OpenInner}
 use Rattle.builder.specs.declared.ser_vec.OpenInners.{OpenInners}
+
+-- ---- the child that a number stands for
+
+abbrev pub childAt : ℕ → Child
+childAt zero = Absent
+childAt (suc p) = At (record { 0 = p })
+
+abbrev pub noChild : ChildPos
+noChild = record { 0 = 0 }
+
+abbrev pub closedAt : ℕ → ChildPos
+closedAt p = record { 0 = p + 1 }
 
 -- ---- what the methods make
 
@@ -21,7 +34,7 @@ abbrev pub noPair : Pair
 noPair = record { key = 0; value = 0 }
 
 abbrev pub noSlot : Slot
-noSlot = record { key = 0; value = 0; lesser = Absent }
+noSlot = record { key = 0; value = 0; lesser = noChild }
 
 abbrev pub newLeaf : OpenLeaf
 newLeaf = record { entries = replicate 5 noPair; len = 0 }
@@ -35,7 +48,7 @@ newInners = record { nodes = replicate 5 newInner; len = 0 }
 abbrev pub pushLeaf : OpenLeaf → Pair → OpenLeaf
 pushLeaf l e = record { entries = set (l .entries) (l .len) e; len = l .len + 1 }
 
-abbrev pub pushInner : OpenInner → Pair → Child → OpenInner
+abbrev pub pushInner : OpenInner → Pair → ChildPos → OpenInner
 pushInner n e c = record { slots = set (n .slots) (n .len) (record { key = e .key; value = e .value; lesser = c }); len = n .len + 1 }
 
 abbrev pub pushInners : OpenInners → OpenInners
@@ -71,14 +84,14 @@ pickBytes false a b = b
 
 -- The field at f of the lesser child of the i-th slot, zero where a node of n slots has none.
 abbrev pub lesserBytes : ℕ → ℕ → ℕ → Slot → List ℕ
-lesserBytes f i n s = pickBytes (ltb i n) (offsetBytes layout32 f (s .lesser)) (leBytes 4 0)
+lesserBytes f i n s = pickBytes (ltb i n) (offsetBytes layout32 f (childAt (s .lesser .0))) (leBytes 4 0)
 
 -- These fields from the i-th slot on.
 abbrev pub lessersBytes : ℕ → ℕ → ℕ → List Slot → List ℕ
 lessersBytes f i n [] = []
 lessersBytes f i n (s ∷ ss) = lesserBytes f i n s ++ lessersBytes (f + 4) (suc i) n ss
 
-unfoldable pub innerBytes : ℕ → OpenInner → Child → List ℕ
+unfoldable pub innerBytes : ℕ → OpenInner → ChildPos → List ℕ
 innerBytes p node g =
     flat 8 (1 ∷ (map (λ (s : Slot). s .key) (node .slots) ++ map (λ (s : Slot). s .value) (node .slots)))
-    ++ (lessersBytes (p + 88) 0 (node .len) (node .slots) ++ offsetBytes layout32 (p + 88 + 20) g)
+    ++ (lessersBytes (p + 88) 0 (node .len) (node .slots) ++ offsetBytes layout32 (p + 88 + 20) (childAt (g .0)))

@@ -1,10 +1,10 @@
 // The build of an archive from keys and values: its refusals, the zeros behind the header, the nodes and the record.
+use crate::inline_vec::ChildPos;
 use crate::map::resolve_from_len;
 use crate::map::serialize_from_ordered_iter;
 use crate::size::end_of;
 use crate::size::start_of;
 use crate::words::put_zeros;
-use format::Child;
 use format::Layout;
 use format::Refusal;
 ghost use mathlib.Core.Path.{_≡_};
@@ -45,7 +45,7 @@ fn build_none(out: &mut [u8], header: usize)
 {
     let at = start_of(header, Layout::RECORD_ALIGN);
     put_zeros(out, header, at);
-    let none = Child::Absent;
+    let none = ChildPos(0);
     resolve_from_len(out, at, none, 0);
 }
 

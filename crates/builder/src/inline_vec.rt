@@ -1,5 +1,4 @@
 // The open nodes of the builder (rkyv's src/util/inline_vec.rs): at most five entries in an array of fixed length.
-use format::Child;
 use format::Layout;
 ghost use mathlib.Core.Path.{_≡_};
 ghost use Prim.Native.Nat.{_<_};
@@ -11,11 +10,15 @@ pub struct Pair {
     pub value: u64,
 }
 
+// The position of a closed child plus one, or 0 where there is none. It is one word: so an open inner node has 128 bytes, which the compiler copies
+// without a call.
+pub struct ChildPos(pub usize);
+
 // An entry of an inner node with the lesser child before it.
 pub struct Slot {
     pub key: u64,
     pub value: u64,
-    pub lesser: Child,
+    pub lesser: ChildPos,
 }
 
 // The entries from `len` on are zero, so a closed node has no other bytes.
@@ -59,7 +62,7 @@ impl OpenInner {
         let none = Slot {
             key: 0,
             value: 0,
-            lesser: Child::Absent,
+            lesser: ChildPos(0),
         };
         Self {
             slots: [none; Layout::ENTRIES],
@@ -68,7 +71,7 @@ impl OpenInner {
     }
 
     // Each arm has a constant index, so that the compiler keeps the node out of memory.
-    pub(crate) fn push(mut self, e: Pair, lesser: Child) -> Self
+    pub(crate) fn push(mut self, e: Pair, lesser: ChildPos) -> Self
         requires { ⌜ self .len < 5 ⌝ }
         ensures { λ r. ⌜ r ≡ pushInner self e lesser ⌝ }
     {

@@ -1,4 +1,5 @@
 // The streaming builder (rkyv's src/collections/btree/map/mod.rs): nodes are closed one after the other, each behind its children.
+use crate::inline_vec::ChildPos;
 use crate::inline_vec::OpenInner;
 use crate::inline_vec::OpenLeaf;
 use crate::inline_vec::Pair;
@@ -14,13 +15,10 @@ use fields::rel_ptr::Stored;
 use fields::rel_ptr::absent_offset;
 use fields::rel_ptr::offset32;
 use fields::twos::bits32;
-use format::Child;
 use format::Layout;
-use format::Position;
 ghost use mathlib.Core.Path.{_≡_};
 ghost use Prim.Native.Nat.{_+_, _-_, _<_, _≤_, _^_};
 ghost use lib.ListN.{length};
-ghost use Rattle.format.specs.declared.Child.the-variants.{Absent};
 ghost use Rattle.format.specs.Layout.{layout32};
 ghost use Rattle.format.specs.Bytes.{leBytes, put};
 ghost use Rattle.format.specs.Tree.{emplaced, offsetBytes, lengthBranch, childOf, writeBranch};
@@ -28,7 +26,7 @@ ghost use Rattle.format.specs.Build.{treeOf, recordBytes, pairs};
 ghost use Rattle.fields.specs.Answers.{storedOf};
 ghost use Rattle.builder.specs.Machine.{entryAt, fitOf, fillS, runS};
 ghost use Rattle.builder.specs.Leaves.{takes, shutOf, outOf, Told, Strides, StridesAt, Rises, Crosses, CrossesAt, Roomy, Sized, Turns, restOf, leftOf, stateOf};
-ghost use Rattle.builder.specs.Nodes.{leafBytes, lesserBytes, innerBytes};
+ghost use Rattle.builder.specs.Nodes.{noChild, childAt, leafBytes, lesserBytes, innerBytes};
 
 fn stored_bits(s: Stored) -> u32
     ensures { λ r. ⌜ leBytes 4 r ≡ emplaced layout32 (storedOf s) ⌝ }
@@ -40,16 +38,14 @@ fn stored_bits(s: Stored) -> u32
 }
 
 // The offset that the field at a position stores for a child; zero where it is refused.
-pub(crate) fn offset_bits(field: usize, child: Child) -> u32
-    ensures { λ r. ⌜ leBytes 4 r ≡ offsetBytes layout32 field child ⌝ }
+pub(crate) fn offset_bits(field: usize, child: ChildPos) -> u32
+    ensures { λ r. ⌜ leBytes 4 r ≡ offsetBytes layout32 field (childAt (child .0)) ⌝ }
 {
-    match child {
-        Child::At(p) => {
-            let to = p.0;
-            stored_bits(offset32(field as u64, to as u64))
-        }
-        Child::Absent => stored_bits(absent_offset(field as u64)),
+    let after = child.0;
+    if after == 0 {
+        return stored_bits(absent_offset(field as u64));
     }
+    stored_bits(offset32(field as u64, (after - 1) as u64))
 }
 
 // The offset of the i-th slot's lesser child; zero where a node of `len` slots has none.
@@ -91,7 +87,7 @@ fn close_leaf(out: &mut [u8], pos: usize, leaf: OpenLeaf) -> usize
 }
 
 // An inner node with its greater child, closed at `pos`: where the next node goes.
-fn close_inner(out: &mut [u8], pos: usize, node: OpenInner, greater: Child) -> usize
+fn close_inner(out: &mut [u8], pos: usize, node: OpenInner, greater: ChildPos) -> usize
     requires { ⌜ pos + 112 ≤ length (now out) ⌝ }
     ensures at { λ r. ⌜ r ≡ pos + 112 ⌝ }
     ensures bytes { λ r. ⌜ now (out .exit) ≡ put (now (out .entry)) pos (innerBytes pos node greater) ⌝ }
@@ -151,7 +147,7 @@ pub enum Fit {
 // An inner node that was filled, the child that is left for its greater one, and the next entry.
 pub struct Filled {
     pub node: OpenInner,
-    pub child: Child,
+    pub child: ChildPos,
     pub next: usize,
 }
 
@@ -183,7 +179,7 @@ fn fits_at(len: usize, at: usize, size: usize) -> Fit
 }
 
 // An open node takes entries until it is full or none is left.
-fn fill(keys: &[u64], values: &[u64], node: OpenInner, child: Child, next: usize) -> Filled
+fn fill(keys: &[u64], values: &[u64], node: OpenInner, child: ChildPos, next: usize) -> Filled
     ensures { λ r. ⌜ r ≡ fillS (5 - node .len) (now (keys .entry)) (now (values .entry)) node child next ⌝ }
 {
     let mut n = node;
@@ -198,7 +194,7 @@ fn fill(keys: &[u64], values: &[u64], node: OpenInner, child: Child, next: usize
             };
         };
         n = n.push(e, c);
-        c = Child::Absent;
+        c = ChildPos(0);
         i += 1;
     }
     Filled {
@@ -210,7 +206,7 @@ fn fill(keys: &[u64], values: &[u64], node: OpenInner, child: Child, next: usize
 
 // Between two leaves: the last closed child, the entries seen by leaves, the next entry and the next position.
 pub struct Place {
-    pub child: Child,
+    pub child: ChildPos,
     pub count: usize,
     pub next: usize,
     pub at: usize,
@@ -219,9 +215,9 @@ pub struct Place {
 impl Place {
     // Before the first entry.
     pub(crate) fn new(at: usize) -> Self
-        ensures { λ r. ⌜ r ≡ record { child = Absent; count = 0; next = 0; at = at } ⌝ }
+        ensures { λ r. ⌜ r ≡ record { child = noChild; count = 0; next = 0; at = at } ⌝ }
     {
-        let child = Child::Absent;
+        let child = ChildPos(0);
         Self {
             child,
             count: 0,
@@ -233,9 +229,9 @@ impl Place {
     // After the next entry went to an inner node.
     pub(crate) fn taken(self) -> Self
         requires { ⌜ self .next < 2 ^ 63 ⌝ }
-        ensures { λ r. ⌜ r ≡ record { child = Absent; count = self .count; next = self .next + 1; at = self .at } ⌝ }
+        ensures { λ r. ⌜ r ≡ record { child = noChild; count = self .count; next = self .next + 1; at = self .at } ⌝ }
     {
-        let child = Child::Absent;
+        let child = ChildPos(0);
         Self {
             child,
             count: self.count,
@@ -253,14 +249,14 @@ pub struct Low {
 
 // The last closed child and the next position.
 pub struct Shut {
-    pub child: Child,
+    pub child: ChildPos,
     pub at: usize,
 }
 
 // The number of open inner nodes, the last closed child, the next entry and the next position.
 pub struct Crossed {
     pub rank: usize,
-    pub child: Child,
+    pub child: ChildPos,
     pub next: usize,
     pub at: usize,
 }
@@ -353,7 +349,7 @@ fn leaf_of(keys: &[u64], values: &[u64], i: usize, k: usize) -> OpenLeaf
 }
 
 // The leaf is closed where it fits; `child` is the last closed one, if it does not.
-fn shut_leaf(out: &mut [u8], leaf: OpenLeaf, child: Child, at: usize) -> Shut
+fn shut_leaf(out: &mut [u8], leaf: OpenLeaf, child: ChildPos, at: usize) -> Shut
     ensures state { λ r. ⌜ r ≡ shutOf (fitOf (length (now (out .entry))) at 96) child at ⌝ }
     ensures bytes { λ r. ⌜ now (out .exit) ≡ outOf (fitOf (length (now (out .entry))) at 96) (now (out .entry)) at (leafBytes (leaf .entries) (leaf .len)) ⌝ }
 {
@@ -361,7 +357,7 @@ fn shut_leaf(out: &mut [u8], leaf: OpenLeaf, child: Child, at: usize) -> Shut
         return Shut { child, at };
     };
     close_leaf(out, at, leaf);
-    let here = Child::At(Position(at));
+    let here = ChildPos(at + 1);
     Shut {
         child: here,
         at: end,
@@ -369,7 +365,7 @@ fn shut_leaf(out: &mut [u8], leaf: OpenLeaf, child: Child, at: usize) -> Shut
 }
 
 // The same of an inner node, of which `child` is the greater one.
-fn shut_node(out: &mut [u8], node: OpenInner, child: Child, at: usize) -> Shut
+fn shut_node(out: &mut [u8], node: OpenInner, child: ChildPos, at: usize) -> Shut
     ensures state { λ r. ⌜ r ≡ shutOf (fitOf (length (now (out .entry))) at 112) child at ⌝ }
     ensures bytes { λ r. ⌜ now (out .exit) ≡ outOf (fitOf (length (now (out .entry))) at 112) (now (out .entry)) at (innerBytes at node child) ⌝ }
 {
@@ -377,7 +373,7 @@ fn shut_node(out: &mut [u8], node: OpenInner, child: Child, at: usize) -> Shut
         return Shut { child, at };
     };
     close_inner(out, at, node, child);
-    let here = Child::At(Position(at));
+    let here = ChildPos(at + 1);
     Shut {
         child: here,
         at: end,
@@ -406,9 +402,9 @@ fn stride(out: &mut [u8], keys: &[u64], values: &[u64], ll: usize, low: Low) -> 
             key: keys[after],
             value: values[after],
         };
-        let leaf = Child::At(Position(at));
+        let leaf = ChildPos(at + 1);
         node = node.push(e, leaf);
-        let child = Child::Absent;
+        let child = ChildPos(0);
         here = Place {
             child,
             count: here.count + 5,
@@ -438,7 +434,7 @@ fn cross(
     keys: &[u64],
     values: &[u64],
     inners: OpenInners,
-    child: Child,
+    child: ChildPos,
     next: usize,
     at: usize,
 ) -> Crossed
@@ -478,7 +474,7 @@ fn cross_at(
     ll: usize,
     count: usize,
     inners: OpenInners,
-    child: Child,
+    child: ChildPos,
     next: usize,
     at: usize,
 ) -> Crossed
@@ -503,7 +499,7 @@ fn rise(
     out: &mut [u8],
     inners: OpenInners,
     rank: usize,
-    child: Child,
+    child: ChildPos,
     next: usize,
     at: usize,
 ) -> Crossed
@@ -603,8 +599,8 @@ fn run(
     from: usize,
 ) -> Place
     requires { ⌜ (length (now keys) ≡ length (now values)) × (start .len ≤ 5) ⌝ }
-    ensures state { λ r. ⌜ restOf r ≡ leftOf (runS (length (now (keys .entry))) (now (keys .entry)) (now (values .entry)) ll (stateOf (start .nodes) (start .len) Absent 0 0 from) (now (out .entry)) .b) ⌝ }
-    ensures bytes { λ r. ⌜ now (out .exit) ≡ runS (length (now (keys .entry))) (now (keys .entry)) (now (values .entry)) ll (stateOf (start .nodes) (start .len) Absent 0 0 from) (now (out .entry)) .out ⌝ }
+    ensures state { λ r. ⌜ restOf r ≡ leftOf (runS (length (now (keys .entry))) (now (keys .entry)) (now (values .entry)) ll (stateOf (start .nodes) (start .len) noChild 0 0 from) (now (out .entry)) .b) ⌝ }
+    ensures bytes { λ r. ⌜ now (out .exit) ≡ runS (length (now (keys .entry))) (now (keys .entry)) (now (values .entry)) ll (stateOf (start .nodes) (start .len) noChild 0 0 from) (now (out .entry)) .out ⌝ }
 {
     let mut inners = start;
     let mut here = Place::new(from);
@@ -656,7 +652,7 @@ pub(crate) fn serialize_from_ordered_iter(
 ) -> Place
     requires { ⌜ (length (now keys) ≡ length (now values)) × (0 < length (now keys)) ⌝ }
     requires { ⌜ (length (now keys) ≤ 40000) × (at + lengthBranch layout32 (treeOf layout32 (pairs (now keys) (now values))) ≤ length (now out)) ⌝ }
-    ensures root { λ r. ⌜ r .child ≡ childOf layout32 (treeOf layout32 (pairs (now (keys .entry)) (now (values .entry)))) at ⌝ }
+    ensures root { λ r. ⌜ childAt (r .child .0) ≡ childOf layout32 (treeOf layout32 (pairs (now (keys .entry)) (now (values .entry)))) at ⌝ }
     ensures place { λ r. ⌜ r .at ≡ at + lengthBranch layout32 (treeOf layout32 (pairs (now (keys .entry)) (now (values .entry)))) ⌝ }
     ensures bytes { λ r. ⌜ now (out .exit) ≡ put (now (out .entry)) at (writeBranch layout32 (treeOf layout32 (pairs (now (keys .entry)) (now (values .entry)))) at) ⌝ }
 {
@@ -670,9 +666,9 @@ pub(crate) fn serialize_from_ordered_iter(
 }
 
 // The record: the root's offset and the count.
-pub(crate) fn resolve_from_len(out: &mut [u8], at: usize, root: Child, n: usize)
+pub(crate) fn resolve_from_len(out: &mut [u8], at: usize, root: ChildPos, n: usize)
     requires { ⌜ (at + 8 ≤ length (now out)) × (n ≤ 40000) ⌝ }
-    ensures { λ _. ⌜ now (out .exit) ≡ put (now (out .entry)) at (recordBytes layout32 at root n) ⌝ }
+    ensures { λ _. ⌜ now (out .exit) ≡ put (now (out .entry)) at (recordBytes layout32 at (childAt (root .0)) n) ⌝ }
 {
     let offset = offset_bits(at, root);
     put_u32(out, at, offset);

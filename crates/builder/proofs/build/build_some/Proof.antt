@@ -3,6 +3,7 @@ use Prim.Native.Nat.{_-_, _≤_}
 use native.Mathlib.Omega.{arith}
 use denote.Ref.{now}
 use lib.Dec.{lit≤}
+use Rattle.builder.specs.Nodes.{childAt}
 use Rattle.builder.proofs.Whole.{is-8, end-tree, some-by}
 use borrow.Author.Needs.{needs}
 use Rattle.builder.proofs.build.build_some.Statement.{statement}
@@ -24,19 +25,19 @@ serialize-from-ordered-iter-requires c κs =
 
 resolve-from-len-requires : tie.Need-resolve-from-len-requires
 resolve-from-len-requires c κs =
-    let s = c .before .before .before .before .before .before .before .before .before .before .before .before .before in
-    let e = end-tree (now (c .before .before .before .before .before .before .before .before .before .before .before .before .before .args .keys)) (now (c .before .before .before .before .before .before .before .before .before .before .before .before .before .args .values)) (c .before .before .before .before .before .before .before .before .before .before .before .before .before .pre .0 .0) (c .before .before .before .before .before .before .before .before .before .before .before .before .before .pre .0 .1) (c .before .before .before .before .before .before .before .before .before .before .before .before .before .pre .1 .0) (c .before .before .before .before .before .before .before .before .before .before .before .before .before .args .header) in
-    (omega (arith, e, s .pre .1 .1 .1, c .before .before .before .before .before .before .before .before .before .start-of .ensures, c .before .before .before .serialize-from-ordered-iter .ensures .1 .0), s .pre .1 .0)
+    let s = c .before .before .before .before .before .before .before .before .before .before .before .before .before .before in
+    let e = end-tree (now (c .before .before .before .before .before .before .before .before .before .before .before .before .before .before .args .keys)) (now (c .before .before .before .before .before .before .before .before .before .before .before .before .before .before .args .values)) (c .before .before .before .before .before .before .before .before .before .before .before .before .before .before .pre .0 .0) (c .before .before .before .before .before .before .before .before .before .before .before .before .before .before .pre .0 .1) (c .before .before .before .before .before .before .before .before .before .before .before .before .before .before .pre .1 .0) (c .before .before .before .before .before .before .before .before .before .before .before .before .before .before .args .header) in
+    (omega (arith, e, s .pre .1 .1 .1, c .before .before .before .before .before .before .before .before .before .before .start-of .ensures, c .before .before .before .before .serialize-from-ordered-iter .ensures .1 .0), s .pre .1 .0)
 
 returns : tie.Need-returns
 returns c =
-    let s = c .before .before .before .before .before .before .before .before .before .before .before .before .before .before .before .before in
+    let s = c .before .before .before .before .before .before .before .before .before .before .before .before .before .before .before .before .before in
     let a = s .args in
-    let f = c .before .before .before .before .before .before .before .before .before .before .before .before .start-of in
-    let z = c .before .before .before .before .before .before .before .before .before .before .put-zeros in
-    let t = c .before .before .before .before .before .before .serialize-from-ordered-iter in
+    let f = c .before .before .before .before .before .before .before .before .before .before .before .before .before .start-of in
+    let z = c .before .before .before .before .before .before .before .before .before .before .before .put-zeros in
+    let t = c .before .before .before .before .before .before .before .serialize-from-ordered-iter in
     let r = c .before .before .resolve-from-len in
-    some-by (now (a .keys)) (now (a .values)) (s .pre .0 .0) (s .pre .0 .1) (s .pre .1 .0) (a .header) (f .result) (t .result .at) (t .result .child) (now (a .out)) (z .last .0) (t .last .0) (r .last .0)
+    some-by (now (a .keys)) (now (a .values)) (s .pre .0 .0) (s .pre .0 .1) (s .pre .1 .0) (a .header) (f .result) (t .result .at) (childAt (t .result .child .0)) (now (a .out)) (z .last .0) (t .last .0) (r .last .0)
     (f .ensures) (t .ensures .1 .0) (t .ensures .0) (z .ensures) (t .ensures .1 .1) (r .ensures)
 
 pub build-some-spec : {M : Type 1} → statement M

@@ -23,11 +23,11 @@ returns c =
 
 returns-2 : tie.Need-returns-2
 returns-2 c =
-    let s = c .before .before .before .before .before .before .before .before .before .before .before in
+    let s = c .before .before .before .before .before .before .before .before .before .before .before .before .before in
     let a = s .args in
-    let f = c .before .before .before .before .before .fill in
+    let f = c .before .before .before .before .before .before .before .fill in
     let n : OpenInner = getD (a .t4 .nodes) (a .t4 .len - 1) (record { slots = []; len = 0 }) in
-    ((omega arith, (omega (arith, fill-next (5 - n .len) (now (a .keys)) (now (a .values)) n (a .child) (a .next), ap (λ (x : Filled). x .next) (f .ensures)), omega (arith, fill-upto (5 - n .len) (now (a .keys)) (now (a .values)) n (a .child) (a .next) (s .pre .1), ap (λ (x : Filled). x .next) (f .ensures)))), (λ (count : ℕ). cross-by (now (a .keys)) (now (a .values)) (a .t4 .nodes) (a .t4 .len) (a .child) count (a .next) (a .at) (now (a .out)) n (f .result) (c .before .before .shut-node .result) (c .before .before .shut-node .last .0) (c .before .before .before .before .before .before .before .if1 .left) refl (f .ensures) (c .before .before .shut-node .ensures .0) (c .before .before .shut-node .ensures .1)))
+    ((omega arith, (omega (arith, fill-next (5 - n .len) (now (a .keys)) (now (a .values)) n (a .child) (a .next), ap (λ (x : Filled). x .next) (f .ensures)), omega (arith, fill-upto (5 - n .len) (now (a .keys)) (now (a .values)) n (a .child) (a .next) (s .pre .1), ap (λ (x : Filled). x .next) (f .ensures)))), (λ (count : ℕ). cross-by (now (a .keys)) (now (a .values)) (a .t4 .nodes) (a .t4 .len) (a .child) count (a .next) (a .at) (now (a .out)) n (f .result) (c .before .before .before .shut-node .result) (c .before .before .before .shut-node .last .0) (c .before .before .before .before .before .before .before .before .before .if1 .left) refl (f .ensures) (c .before .before .before .shut-node .ensures .0) (c .before .before .before .shut-node .ensures .1)))
 
 pub cross-spec : {M : Type 1} → statement M
 cross-spec =

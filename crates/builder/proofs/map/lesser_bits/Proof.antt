@@ -5,7 +5,7 @@ use Rattle.builder.proofs.map.lesser_bits.Statement.{statement}
 use Rattle.builder.proofs.map.lesser_bits.Tie as tie
 
 returns : tie.Need-returns
-returns c = rw (lt-ltb _ _ (c .before .if1 .taken)) (c .offset-bits .ensures)
+returns c = rw (lt-ltb _ _ (c .before .before .if1 .taken)) (c .offset-bits .ensures)
 
 returns-2 : tie.Need-returns-2
 returns-2 c = rw (le-ltb _ _ (c .if1 .left))

@@ -38,20 +38,20 @@ returns c =
     ((l .loop .inv .0 .0, refl), ((λ (z : 0 < l .loop .o). c .if1 .taken), l .loop .inv .1))
 
 loop-less : tie.Need-loop-less Inv-loop μ-loop
-loop-less c = omega (arith, c .before .before .before .before .before .before .before .loop-test .taken)
+loop-less c = omega (arith, c .before .before .before .before .before .before .before .before .loop-test .taken)
 
 loop-again : tie.Need-loop-again Inv-loop μ-loop
 loop-again c =
-    let l = c .before .before .before .before .before .before .before .before in
+    let l = c .before .before .before .before .before .before .before .before .before in
     let a = l .before .before .args in
-    let r = c .before .before .shut-node in
-    let z = c .before .before .before .before .before .before .before .loop-test .taken in
+    let r = c .before .before .before .shut-node in
+    let z = c .before .before .before .before .before .before .before .before .loop-test .taken in
     let n : OpenInner = getD (a .t2 .nodes) (l .loop .o - 1) (record { slots = []; len = 0 }) in (
       (omega (arith, l .loop .inv .0 .0), r .kept .0 ∙ l .loop .inv .0 .1),
       (λ (ks vs : List ℕ) (count nx : ℕ).
           let e : a .rank - l .loop .o + 1 ≡ a .rank - (l .loop .o - 1) = omega (arith, l .loop .inv .0 .0, z) in
           l .loop .inv .1 ks vs count nx
-          ∙ rise-by ks vs (a .rank - l .loop .o) (a .t2 .nodes) (l .loop .o) (l .loop .c) count nx (l .loop .p) (l .loop .out) n (r .result) (r .last .0) z refl (c .before .before .before .before .if1 .left) (r .ensures .0) (r .ensures .1)
+          ∙ rise-by ks vs (a .rank - l .loop .o) (a .t2 .nodes) (l .loop .o) (l .loop .c) count nx (l .loop .p) (l .loop .out) n (r .result) (r .last .0) z refl (c .before .before .before .before .before .if1 .left) (r .ensures .0) (r .ensures .1)
           ∙ ap (λ (k : ℕ). climbS (l .loop .o - 1) ks vs k (stateOf (a .t2 .nodes) (l .loop .o - 1) (r .result .child) count nx (r .result .at)) (r .last .0)) e),
     )
 

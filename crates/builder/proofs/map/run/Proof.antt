@@ -5,10 +5,9 @@ use Prim.Native.Nat.{_+_, _-_, _*_, _<_}
 use native.Mathlib.Omega.{arith}
 use denote.Ref.{now}
 use lib.ListN.{length, getD, set, length-map, length-set}
-use Rattle.format.specs.declared.Child.the-variants.{Absent}
 use Rattle.builder.specs.declared.map.Turn.{Turn}
 use Rattle.builder.specs.declared.map.Turn.the-variants.{Up, Short}
-use Rattle.builder.specs.Nodes.{noInner}
+use Rattle.builder.specs.Nodes.{noChild, noInner}
 use Rattle.builder.specs.Leaves.{Goes, Turns, stateOf}
 use Rattle.builder.specs.declared.map.Place.{Place}
 use Rattle.builder.proofs.Answers.{got-below}
@@ -18,7 +17,7 @@ use Rattle.builder.proofs.map.run.Tie as tie
 
 abbrev Inv-loop : tie.InvT-loop
 Inv-loop out₀ keys values ll from inners₀ here₀ below₀ out inners here below =
-    Going keys values ll (stateOf (inners₀ .nodes) (inners₀ .len) Absent 0 0 from) out₀ inners (here .child) (here .count) (here .next) (here .at) below out
+    Going keys values ll (stateOf (inners₀ .nodes) (inners₀ .len) noChild 0 0 from) out₀ inners (here .child) (here .count) (here .next) (here .at) below out
 
 abbrev μ-loop : tie.MeasureT-loop
 μ-loop out₀ keys values ll from inners₀ here₀ below₀ out inners here below = 6 * (length keys - here .next) + below
@@ -34,7 +33,7 @@ loop-holds c =
       upto = rw e (omega arith);
       seen = rw e (omega arith);
       long = refl;
-      goes = rw e (goes-refl (now (a .keys)) (now (a .values)) (a .ll) (stateOf (a .start .nodes) (a .start .len) Absent 0 0 (a .from)) (now (a .out)));
+      goes = rw e (goes-refl (now (a .keys)) (now (a .values)) (a .ll) (stateOf (a .start .nodes) (a .start .len) noChild 0 0 (a .from)) (now (a .out)));
     }
 
 mul-fresh : tie.Need-mul-fresh Inv-loop μ-loop
@@ -58,7 +57,7 @@ loop-again c =
     let s = c .before .before .before .before .before .before .before in
     let a = s .args in
     let w = c .new2 in
-    going-open (now (a .keys)) (now (a .values)) (a .ll) (stateOf (a .start .nodes) (a .start .len) Absent 0 0 (a .from)) (now (a .out)) (l .loop .inners) (l .loop .here .child) (l .loop .here .count) (l .loop .here .next) (l .loop .here .at) (l .loop .below) (l .loop .out) (w .result) (l .loop .inv) (c .before .if1 .taken) (w .ensures)
+    going-open (now (a .keys)) (now (a .values)) (a .ll) (stateOf (a .start .nodes) (a .start .len) noChild 0 0 (a .from)) (now (a .out)) (l .loop .inners) (l .loop .here .child) (l .loop .here .count) (l .loop .here .next) (l .loop .here .at) (l .loop .below) (l .loop .out) (w .result) (l .loop .inv) (c .before .if1 .taken) (w .ensures)
 
 mul-node : tie.Need-mul-node Inv-loop μ-loop
 mul-node c = omega (arith, c .before .before .loop .inv .few, c .less .ensures)
@@ -90,12 +89,12 @@ returns c =
     let st = c .before .before .before .before .before .before .before .before .before .before .stride-at in
     let ns = set (l .loop .inners .nodes) (i .result) (st .result .node) in
     let cn = c .before .before .before .before .close-nodes in
-    let g : Goes (now (a .keys)) (now (a .values)) (a .ll) (stateOf (a .start .nodes) (a .start .len) Absent 0 0 (a .from)) (now (a .out)) (stateOf ns (l .loop .inners .len) (st .result .here .child) (st .result .here .count) (st .result .here .next) (st .result .here .at)) (st .last .0) =
-    going-strode (now (a .keys)) (now (a .values)) (a .ll) (stateOf (a .start .nodes) (a .start .len) Absent 0 0 (a .from)) (now (a .out)) (l .loop .inners) (l .loop .here .child) (l .loop .here .count) (l .loop .here .next) (l .loop .here .at) (l .loop .below) (l .loop .out) (l .loop .inv) (omega (arith, c .before .before .before .before .before .before .before .before .before .before .before .before .before .before .if1 .left)) (i .result) (i .ensures)
+    let g : Goes (now (a .keys)) (now (a .values)) (a .ll) (stateOf (a .start .nodes) (a .start .len) noChild 0 0 (a .from)) (now (a .out)) (stateOf ns (l .loop .inners .len) (st .result .here .child) (st .result .here .count) (st .result .here .next) (st .result .here .at)) (st .last .0) =
+    going-strode (now (a .keys)) (now (a .values)) (a .ll) (stateOf (a .start .nodes) (a .start .len) noChild 0 0 (a .from)) (now (a .out)) (l .loop .inners) (l .loop .here .child) (l .loop .here .count) (l .loop .here .next) (l .loop .here .at) (l .loop .below) (l .loop .out) (l .loop .inv) (omega (arith, c .before .before .before .before .before .before .before .before .before .before .before .before .before .before .if1 .left)) (i .result) (i .ensures)
     (getD (l .loop .inners .nodes) (i .result) noInner) refl (st .result) (st .last .0) (st .ensures .1) in
     let u : Turns (now (a .keys)) (now (a .values)) (a .ll) ns (l .loop .inners .len) (st .result .here) (st .last .0) Short (cn .last .0) =
     subst (λ (t : Turn). Turns (now (a .keys)) (now (a .values)) (a .ll) ns (l .loop .inners .len) (st .result .here) (st .last .0) t (cn .last .0)) (c .enum-told .given .1) (cn .ensures) in
-    ended-turn (now (a .keys)) (now (a .values)) (a .ll) (stateOf (a .start .nodes) (a .start .len) Absent 0 0 (a .from)) (now (a .out)) ns (l .loop .inners .len) (st .result .here) (st .last .0) (cn .last .0) g (omega (arith, l .loop .inv .few)) (s .pre .0) (st .ensures .0 .0) u
+    ended-turn (now (a .keys)) (now (a .values)) (a .ll) (stateOf (a .start .nodes) (a .start .len) noChild 0 0 (a .from)) (now (a .out)) ns (l .loop .inners .len) (st .result .here) (st .last .0) (cn .last .0) g (omega (arith, l .loop .inv .few)) (s .pre .0) (st .ensures .0 .0) u
 
 loop-less-2 : tie.Need-loop-less-2 Inv-loop μ-loop
 loop-less-2 c =
@@ -120,17 +119,17 @@ loop-again-2 c =
     let st = c .before .before .before .before .before .before .before .before .before .before .before .before .before .before .stride-at in
     let ns = set (l .loop .inners .nodes) (i .result) (st .result .node) in
     let cn = c .before .before .before .before .before .before .before .before .close-nodes in
-    let g : Goes (now (a .keys)) (now (a .values)) (a .ll) (stateOf (a .start .nodes) (a .start .len) Absent 0 0 (a .from)) (now (a .out)) (stateOf ns (l .loop .inners .len) (st .result .here .child) (st .result .here .count) (st .result .here .next) (st .result .here .at)) (st .last .0) =
-    going-strode (now (a .keys)) (now (a .values)) (a .ll) (stateOf (a .start .nodes) (a .start .len) Absent 0 0 (a .from)) (now (a .out)) (l .loop .inners) (l .loop .here .child) (l .loop .here .count) (l .loop .here .next) (l .loop .here .at) (l .loop .below) (l .loop .out) (l .loop .inv) (omega (arith, c .before .before .before .before .before .before .before .before .before .before .before .before .before .before .before .before .before .before .if1 .left)) (i .result) (i .ensures)
+    let g : Goes (now (a .keys)) (now (a .values)) (a .ll) (stateOf (a .start .nodes) (a .start .len) noChild 0 0 (a .from)) (now (a .out)) (stateOf ns (l .loop .inners .len) (st .result .here .child) (st .result .here .count) (st .result .here .next) (st .result .here .at)) (st .last .0) =
+    going-strode (now (a .keys)) (now (a .values)) (a .ll) (stateOf (a .start .nodes) (a .start .len) noChild 0 0 (a .from)) (now (a .out)) (l .loop .inners) (l .loop .here .child) (l .loop .here .count) (l .loop .here .next) (l .loop .here .at) (l .loop .below) (l .loop .out) (l .loop .inv) (omega (arith, c .before .before .before .before .before .before .before .before .before .before .before .before .before .before .before .before .before .before .if1 .left)) (i .result) (i .ensures)
     (getD (l .loop .inners .nodes) (i .result) noInner) refl (st .result) (st .last .0) (st .ensures .1) in
     let r = c .before .before .before .before .r .given .0 .0 in
     let u : Turns (now (a .keys)) (now (a .values)) (a .ll) ns (l .loop .inners .len) (st .result .here) (st .last .0) (Up r) (cn .last .0) =
     subst (λ (t : Turn). Turns (now (a .keys)) (now (a .values)) (a .ll) ns (l .loop .inners .len) (st .result .here) (st .last .0) t (cn .last .0)) (c .before .before .before .before .r .given .1) (cn .ensures) in
-    let up = goes-then (now (a .keys)) (now (a .values)) (a .ll) (stateOf (a .start .nodes) (a .start .len) Absent 0 0 (a .from)) _ _ (now (a .out)) (st .last .0) _ g (u .1 .1) in
+    let up = goes-then (now (a .keys)) (now (a .values)) (a .ll) (stateOf (a .start .nodes) (a .start .len) noChild 0 0 (a .from)) _ _ (now (a .out)) (st .last .0) _ g (u .1 .1) in
     let long = cn .kept .0 ∙ st .kept .0 ∙ l .loop .inv .long in
     let five = length-set (l .loop .inners .nodes) (i .result) (st .result .node) ∙ l .loop .inv .five in
     let z : l .loop .below ≡ 0 = omega (arith, c .before .before .before .before .before .before .before .before .before .before .before .before .before .before .before .before .before .before .if1 .left) in
-    going-closed (now (a .keys)) (now (a .values)) (a .ll) (stateOf (a .start .nodes) (a .start .len) Absent 0 0 (a .from)) (now (a .out)) ns (r .rank) (r .top - r .rank) (r .here .child) (r .here .count) (r .here .next) (r .here .next) (r .here .at) (l .loop .below) (cn .last .0) up (c .if2 .taken) z refl five (u .0 .1 .0 .1) (u .0 .1 .1) long
+    going-closed (now (a .keys)) (now (a .values)) (a .ll) (stateOf (a .start .nodes) (a .start .len) noChild 0 0 (a .from)) (now (a .out)) ns (r .rank) (r .top - r .rank) (r .here .child) (r .here .count) (r .here .next) (r .here .next) (r .here .at) (l .loop .below) (cn .last .0) up (c .if2 .taken) z refl five (u .0 .1 .0 .1) (u .0 .1 .1) long
 
 same-length-2 : tie.Need-same-length-2 Inv-loop μ-loop
 same-length-2 c = c .before .before .before .before .before .before .before .before .before .before .before .close-nodes .kept .0 ∙ c .before .before .before .before .before .before .before .before .before .before .before .before .before .before .before .before .before .stride-at .kept .0 ∙ c .before .before .before .before .before .before .before .before .before .before .before .before .before .before .before .before .before .before .before .before .before .before .loop .inv .long
@@ -144,17 +143,17 @@ returns-2 c =
     let st = c .before .before .before .before .before .before .before .before .before .before .before .before .before .before .before .before .before .stride-at in
     let ns = set (l .loop .inners .nodes) (i .result) (st .result .node) in
     let cn = c .before .before .before .before .before .before .before .before .before .before .before .close-nodes in
-    let g : Goes (now (a .keys)) (now (a .values)) (a .ll) (stateOf (a .start .nodes) (a .start .len) Absent 0 0 (a .from)) (now (a .out)) (stateOf ns (l .loop .inners .len) (st .result .here .child) (st .result .here .count) (st .result .here .next) (st .result .here .at)) (st .last .0) =
-    going-strode (now (a .keys)) (now (a .values)) (a .ll) (stateOf (a .start .nodes) (a .start .len) Absent 0 0 (a .from)) (now (a .out)) (l .loop .inners) (l .loop .here .child) (l .loop .here .count) (l .loop .here .next) (l .loop .here .at) (l .loop .below) (l .loop .out) (l .loop .inv) (omega (arith, c .before .before .before .before .before .before .before .before .before .before .before .before .before .before .before .before .before .before .before .before .before .if1 .left)) (i .result) (i .ensures)
+    let g : Goes (now (a .keys)) (now (a .values)) (a .ll) (stateOf (a .start .nodes) (a .start .len) noChild 0 0 (a .from)) (now (a .out)) (stateOf ns (l .loop .inners .len) (st .result .here .child) (st .result .here .count) (st .result .here .next) (st .result .here .at)) (st .last .0) =
+    going-strode (now (a .keys)) (now (a .values)) (a .ll) (stateOf (a .start .nodes) (a .start .len) noChild 0 0 (a .from)) (now (a .out)) (l .loop .inners) (l .loop .here .child) (l .loop .here .count) (l .loop .here .next) (l .loop .here .at) (l .loop .below) (l .loop .out) (l .loop .inv) (omega (arith, c .before .before .before .before .before .before .before .before .before .before .before .before .before .before .before .before .before .before .before .before .before .if1 .left)) (i .result) (i .ensures)
     (getD (l .loop .inners .nodes) (i .result) noInner) refl (st .result) (st .last .0) (st .ensures .1) in
     let r = c .before .before .before .before .before .before .before .r .given .0 .0 in
     let u : Turns (now (a .keys)) (now (a .values)) (a .ll) ns (l .loop .inners .len) (st .result .here) (st .last .0) (Up r) (cn .last .0) =
     subst (λ (t : Turn). Turns (now (a .keys)) (now (a .values)) (a .ll) ns (l .loop .inners .len) (st .result .here) (st .last .0) t (cn .last .0)) (c .before .before .before .before .before .before .before .r .given .1) (cn .ensures) in
-    let up = goes-then (now (a .keys)) (now (a .values)) (a .ll) (stateOf (a .start .nodes) (a .start .len) Absent 0 0 (a .from)) _ _ (now (a .out)) (st .last .0) _ g (u .1 .1) in
+    let up = goes-then (now (a .keys)) (now (a .values)) (a .ll) (stateOf (a .start .nodes) (a .start .len) noChild 0 0 (a .from)) _ _ (now (a .out)) (st .last .0) _ g (u .1 .1) in
     let long = cn .kept .0 ∙ st .kept .0 ∙ l .loop .inv .long in
     let five = length-set (l .loop .inners .nodes) (i .result) (st .result .node) ∙ l .loop .inv .five in
     let en = c .before .before .entry-at in
-    ended-low (now (a .keys)) (now (a .values)) (a .ll) (stateOf (a .start .nodes) (a .start .len) Absent 0 0 (a .from)) (now (a .out)) ns (r .rank) (r .top - r .rank) (r .here .child) (r .here .count) (r .here .next) (r .here .next) (r .here .at) (cn .last .0) up (c .before .before .before .if2 .left) refl (u .1 .0) (sym (en .ensures) ∙ c .enum-told2 .given .1)
+    ended-low (now (a .keys)) (now (a .values)) (a .ll) (stateOf (a .start .nodes) (a .start .len) noChild 0 0 (a .from)) (now (a .out)) ns (r .rank) (r .top - r .rank) (r .here .child) (r .here .count) (r .here .next) (r .here .next) (r .here .at) (cn .last .0) up (c .before .before .before .if2 .left) refl (u .1 .0) (sym (en .ensures) ∙ c .enum-told2 .given .1)
 
 sub-j : tie.Need-sub-j Inv-loop μ-loop
 sub-j c = omega (arith, c .before .before .before .before .before .if2 .left)
@@ -189,48 +188,20 @@ element-copy-out-lowest c =
 
 push-requires : tie.Need-push-requires Inv-loop μ-loop
 push-requires c κs =
-    let l = c .before .before .before .before .before .before .before .before .before .before .before .before .before .before .before .before .before .before .before .before .before .before .before .before .before in
-    let s = c .before .before .before .before .before .before .before .before .before .before .before .before .before .before .before .before .before .before .before .before .before .before .before .before .before .before .before .before .before .before in
+    let l = c .before .before .before .before .before .before .before .before .before .before .before .before .before .before .before .before .before .before .before .before .before .before .before .before .before .before in
+    let s = c .before .before .before .before .before .before .before .before .before .before .before .before .before .before .before .before .before .before .before .before .before .before .before .before .before .before .before .before .before .before .before in
     let a = s .args in
-    let i = c .before .before .before .before .before .before .before .before .before .before .before .before .before .before .before .before .before .before .before .before .before .before .before .less in
-    let st = c .before .before .before .before .before .before .before .before .before .before .before .before .before .before .before .before .before .before .before .before .stride-at in
+    let i = c .before .before .before .before .before .before .before .before .before .before .before .before .before .before .before .before .before .before .before .before .before .before .before .before .less in
+    let st = c .before .before .before .before .before .before .before .before .before .before .before .before .before .before .before .before .before .before .before .before .before .stride-at in
     let ns = set (l .loop .inners .nodes) (i .result) (st .result .node) in
-    let cn = c .before .before .before .before .before .before .before .before .before .before .before .before .before .before .close-nodes in
-    let r = c .before .before .before .before .before .before .before .before .before .before .r .given .0 .0 in
+    let cn = c .before .before .before .before .before .before .before .before .before .before .before .before .before .before .before .close-nodes in
+    let r = c .before .before .before .before .before .before .before .before .before .before .before .r .given .0 .0 in
     let u : Turns (now (a .keys)) (now (a .values)) (a .ll) ns (l .loop .inners .len) (st .result .here) (st .last .0) (Up r) (cn .last .0) =
-    subst (λ (t : Turn). Turns (now (a .keys)) (now (a .values)) (a .ll) ns (l .loop .inners .len) (st .result .here) (st .last .0) t (cn .last .0)) (c .before .before .before .before .before .before .before .before .before .before .r .given .1) (cn .ensures) in
-    u .1 .0 (omega (arith, c .before .before .before .before .before .before .if2 .left))
+    subst (λ (t : Turn). Turns (now (a .keys)) (now (a .values)) (a .ll) ns (l .loop .inners .len) (st .result .here) (st .last .0) t (cn .last .0)) (c .before .before .before .before .before .before .before .before .before .before .before .r .given .1) (cn .ensures) in
+    u .1 .0 (omega (arith, c .before .before .before .before .before .before .before .if2 .left))
 
 mul-grown : tie.Need-mul-grown Inv-loop μ-loop
 mul-grown c =
-    let l = c .before .before .before .before .before .before .before .before .before .before .before .before .before .before .before .before .before .before .before .before .before .before .before .before .before .before in
-    let s = c .before .before .before .before .before .before .before .before .before .before .before .before .before .before .before .before .before .before .before .before .before .before .before .before .before .before .before .before .before .before .before in
-    let a = s .args in
-    let i = c .before .before .before .before .before .before .before .before .before .before .before .before .before .before .before .before .before .before .before .before .before .before .before .before .less in
-    let st = c .before .before .before .before .before .before .before .before .before .before .before .before .before .before .before .before .before .before .before .before .before .stride-at in
-    let ns = set (l .loop .inners .nodes) (i .result) (st .result .node) in
-    let cn = c .before .before .before .before .before .before .before .before .before .before .before .before .before .before .before .close-nodes in
-    let r = c .before .before .before .before .before .before .before .before .before .before .before .r .given .0 .0 in
-    let u : Turns (now (a .keys)) (now (a .values)) (a .ll) ns (l .loop .inners .len) (st .result .here) (st .last .0) (Up r) (cn .last .0) =
-    subst (λ (t : Turn). Turns (now (a .keys)) (now (a .values)) (a .ll) ns (l .loop .inners .len) (st .result .here) (st .last .0) t (cn .last .0)) (c .before .before .before .before .before .before .before .before .before .before .before .r .given .1) (cn .ensures) in
-    omega (arith, u .0 .0, l .loop .inv .few, c .before .before .before .before .before .before .before .if2 .left)
-
-element-set-from-grown : tie.Need-element-set-from-grown Inv-loop μ-loop
-element-set-from-grown c =
-    let l = c .before .before .before .before .before .before .before .before .before .before .before .before .before .before .before .before .before .before .before .before .before .before .before .before .before .before in
-    let s = c .before .before .before .before .before .before .before .before .before .before .before .before .before .before .before .before .before .before .before .before .before .before .before .before .before .before .before .before .before .before .before in
-    let a = s .args in
-    let i = c .before .before .before .before .before .before .before .before .before .before .before .before .before .before .before .before .before .before .before .before .before .before .before .before .less in
-    let st = c .before .before .before .before .before .before .before .before .before .before .before .before .before .before .before .before .before .before .before .before .before .stride-at in
-    let ns = set (l .loop .inners .nodes) (i .result) (st .result .node) in
-    let cn = c .before .before .before .before .before .before .before .before .before .before .before .before .before .before .before .close-nodes in
-    let r = c .before .before .before .before .before .before .before .before .before .before .before .r .given .0 .0 in
-    let u : Turns (now (a .keys)) (now (a .values)) (a .ll) ns (l .loop .inners .len) (st .result .here) (st .last .0) (Up r) (cn .last .0) =
-    subst (λ (t : Turn). Turns (now (a .keys)) (now (a .values)) (a .ll) ns (l .loop .inners .len) (st .result .here) (st .last .0) t (cn .last .0)) (c .before .before .before .before .before .before .before .before .before .before .before .r .given .1) (cn .ensures) in
-    omega (arith, u .0 .0, l .loop .inv .few, c .before .before .before .before .before .before .before .if2 .left)
-
-sub-below-2 : tie.Need-sub-below-2 Inv-loop μ-loop
-sub-below-2 c =
     let l = c .before .before .before .before .before .before .before .before .before .before .before .before .before .before .before .before .before .before .before .before .before .before .before .before .before .before .before in
     let s = c .before .before .before .before .before .before .before .before .before .before .before .before .before .before .before .before .before .before .before .before .before .before .before .before .before .before .before .before .before .before .before .before in
     let a = s .args in
@@ -243,8 +214,8 @@ sub-below-2 c =
     subst (λ (t : Turn). Turns (now (a .keys)) (now (a .values)) (a .ll) ns (l .loop .inners .len) (st .result .here) (st .last .0) t (cn .last .0)) (c .before .before .before .before .before .before .before .before .before .before .before .before .r .given .1) (cn .ensures) in
     omega (arith, u .0 .0, l .loop .inv .few, c .before .before .before .before .before .before .before .before .if2 .left)
 
-taken-requires : tie.Need-taken-requires Inv-loop μ-loop
-taken-requires c κs =
+element-set-from-grown : tie.Need-element-set-from-grown Inv-loop μ-loop
+element-set-from-grown c =
     let l = c .before .before .before .before .before .before .before .before .before .before .before .before .before .before .before .before .before .before .before .before .before .before .before .before .before .before .before in
     let s = c .before .before .before .before .before .before .before .before .before .before .before .before .before .before .before .before .before .before .before .before .before .before .before .before .before .before .before .before .before .before .before .before in
     let a = s .args in
@@ -255,10 +226,10 @@ taken-requires c κs =
     let r = c .before .before .before .before .before .before .before .before .before .before .before .before .r .given .0 .0 in
     let u : Turns (now (a .keys)) (now (a .values)) (a .ll) ns (l .loop .inners .len) (st .result .here) (st .last .0) (Up r) (cn .last .0) =
     subst (λ (t : Turn). Turns (now (a .keys)) (now (a .values)) (a .ll) ns (l .loop .inners .len) (st .result .here) (st .last .0) t (cn .last .0)) (c .before .before .before .before .before .before .before .before .before .before .before .before .r .given .1) (cn .ensures) in
-    omega (arith, u .0 .1, s .good)
+    omega (arith, u .0 .0, l .loop .inv .few, c .before .before .before .before .before .before .before .before .if2 .left)
 
-loop-less-3 : tie.Need-loop-less-3 Inv-loop μ-loop
-loop-less-3 c =
+sub-below-2 : tie.Need-sub-below-2 Inv-loop μ-loop
+sub-below-2 c =
     let l = c .before .before .before .before .before .before .before .before .before .before .before .before .before .before .before .before .before .before .before .before .before .before .before .before .before .before .before .before in
     let s = c .before .before .before .before .before .before .before .before .before .before .before .before .before .before .before .before .before .before .before .before .before .before .before .before .before .before .before .before .before .before .before .before .before in
     let a = s .args in
@@ -269,35 +240,63 @@ loop-less-3 c =
     let r = c .before .before .before .before .before .before .before .before .before .before .before .before .before .r .given .0 .0 in
     let u : Turns (now (a .keys)) (now (a .values)) (a .ll) ns (l .loop .inners .len) (st .result .here) (st .last .0) (Up r) (cn .last .0) =
     subst (λ (t : Turn). Turns (now (a .keys)) (now (a .values)) (a .ll) ns (l .loop .inners .len) (st .result .here) (st .last .0) t (cn .last .0)) (c .before .before .before .before .before .before .before .before .before .before .before .before .before .r .given .1) (cn .ensures) in
-    let en = c .before .before .before .before .before .before .before .before .entry-at in
-    let e = c .before .before .before .before .before .before .e in
+    omega (arith, u .0 .0, l .loop .inv .few, c .before .before .before .before .before .before .before .before .before .if2 .left)
+
+taken-requires : tie.Need-taken-requires Inv-loop μ-loop
+taken-requires c κs =
+    let l = c .before .before .before .before .before .before .before .before .before .before .before .before .before .before .before .before .before .before .before .before .before .before .before .before .before .before .before .before in
+    let s = c .before .before .before .before .before .before .before .before .before .before .before .before .before .before .before .before .before .before .before .before .before .before .before .before .before .before .before .before .before .before .before .before .before in
+    let a = s .args in
+    let i = c .before .before .before .before .before .before .before .before .before .before .before .before .before .before .before .before .before .before .before .before .before .before .before .before .before .before .less in
+    let st = c .before .before .before .before .before .before .before .before .before .before .before .before .before .before .before .before .before .before .before .before .before .before .before .stride-at in
+    let ns = set (l .loop .inners .nodes) (i .result) (st .result .node) in
+    let cn = c .before .before .before .before .before .before .before .before .before .before .before .before .before .before .before .before .before .close-nodes in
+    let r = c .before .before .before .before .before .before .before .before .before .before .before .before .before .r .given .0 .0 in
+    let u : Turns (now (a .keys)) (now (a .values)) (a .ll) ns (l .loop .inners .len) (st .result .here) (st .last .0) (Up r) (cn .last .0) =
+    subst (λ (t : Turn). Turns (now (a .keys)) (now (a .values)) (a .ll) ns (l .loop .inners .len) (st .result .here) (st .last .0) t (cn .last .0)) (c .before .before .before .before .before .before .before .before .before .before .before .before .before .r .given .1) (cn .ensures) in
+    omega (arith, u .0 .1, s .good)
+
+loop-less-3 : tie.Need-loop-less-3 Inv-loop μ-loop
+loop-less-3 c =
+    let l = c .before .before .before .before .before .before .before .before .before .before .before .before .before .before .before .before .before .before .before .before .before .before .before .before .before .before .before .before .before in
+    let s = c .before .before .before .before .before .before .before .before .before .before .before .before .before .before .before .before .before .before .before .before .before .before .before .before .before .before .before .before .before .before .before .before .before .before in
+    let a = s .args in
+    let i = c .before .before .before .before .before .before .before .before .before .before .before .before .before .before .before .before .before .before .before .before .before .before .before .before .before .before .before .less in
+    let st = c .before .before .before .before .before .before .before .before .before .before .before .before .before .before .before .before .before .before .before .before .before .before .before .before .stride-at in
+    let ns = set (l .loop .inners .nodes) (i .result) (st .result .node) in
+    let cn = c .before .before .before .before .before .before .before .before .before .before .before .before .before .before .before .before .before .before .close-nodes in
+    let r = c .before .before .before .before .before .before .before .before .before .before .before .before .before .before .r .given .0 .0 in
+    let u : Turns (now (a .keys)) (now (a .values)) (a .ll) ns (l .loop .inners .len) (st .result .here) (st .last .0) (Up r) (cn .last .0) =
+    subst (λ (t : Turn). Turns (now (a .keys)) (now (a .values)) (a .ll) ns (l .loop .inners .len) (st .result .here) (st .last .0) t (cn .last .0)) (c .before .before .before .before .before .before .before .before .before .before .before .before .before .before .r .given .1) (cn .ensures) in
+    let en = c .before .before .before .before .before .before .before .before .before .entry-at in
+    let e = c .before .before .before .before .before .before .before .e in
     let z : r .here .next < length (now (a .keys)) = got-below (now (a .keys)) (now (a .values)) (r .here .next) (e .given .0 .0) (sym (en .ensures) ∙ e .given .1) in
     let tk = ap (λ (p : Place). p .next) (c .taken .ensures) in
     omega (arith, u .0, st .ensures .0, l .loop .inv .few)
 
 loop-again-3 : tie.Need-loop-again-3 Inv-loop μ-loop
 loop-again-3 c =
-    let l = c .before .before .before .before .before .before .before .before .before .before .before .before .before .before .before .before .before .before .before .before .before .before .before .before .before .before .before .before in
-    let s = c .before .before .before .before .before .before .before .before .before .before .before .before .before .before .before .before .before .before .before .before .before .before .before .before .before .before .before .before .before .before .before .before .before in
+    let l = c .before .before .before .before .before .before .before .before .before .before .before .before .before .before .before .before .before .before .before .before .before .before .before .before .before .before .before .before .before in
+    let s = c .before .before .before .before .before .before .before .before .before .before .before .before .before .before .before .before .before .before .before .before .before .before .before .before .before .before .before .before .before .before .before .before .before .before in
     let a = s .args in
-    let i = c .before .before .before .before .before .before .before .before .before .before .before .before .before .before .before .before .before .before .before .before .before .before .before .before .before .before .less in
-    let st = c .before .before .before .before .before .before .before .before .before .before .before .before .before .before .before .before .before .before .before .before .before .before .before .stride-at in
+    let i = c .before .before .before .before .before .before .before .before .before .before .before .before .before .before .before .before .before .before .before .before .before .before .before .before .before .before .before .less in
+    let st = c .before .before .before .before .before .before .before .before .before .before .before .before .before .before .before .before .before .before .before .before .before .before .before .before .stride-at in
     let ns = set (l .loop .inners .nodes) (i .result) (st .result .node) in
-    let cn = c .before .before .before .before .before .before .before .before .before .before .before .before .before .before .before .before .before .close-nodes in
-    let g : Goes (now (a .keys)) (now (a .values)) (a .ll) (stateOf (a .start .nodes) (a .start .len) Absent 0 0 (a .from)) (now (a .out)) (stateOf ns (l .loop .inners .len) (st .result .here .child) (st .result .here .count) (st .result .here .next) (st .result .here .at)) (st .last .0) =
-    going-strode (now (a .keys)) (now (a .values)) (a .ll) (stateOf (a .start .nodes) (a .start .len) Absent 0 0 (a .from)) (now (a .out)) (l .loop .inners) (l .loop .here .child) (l .loop .here .count) (l .loop .here .next) (l .loop .here .at) (l .loop .below) (l .loop .out) (l .loop .inv) (omega (arith, c .before .before .before .before .before .before .before .before .before .before .before .before .before .before .before .before .before .before .before .before .before .before .before .before .before .before .before .if1 .left)) (i .result) (i .ensures)
+    let cn = c .before .before .before .before .before .before .before .before .before .before .before .before .before .before .before .before .before .before .close-nodes in
+    let g : Goes (now (a .keys)) (now (a .values)) (a .ll) (stateOf (a .start .nodes) (a .start .len) noChild 0 0 (a .from)) (now (a .out)) (stateOf ns (l .loop .inners .len) (st .result .here .child) (st .result .here .count) (st .result .here .next) (st .result .here .at)) (st .last .0) =
+    going-strode (now (a .keys)) (now (a .values)) (a .ll) (stateOf (a .start .nodes) (a .start .len) noChild 0 0 (a .from)) (now (a .out)) (l .loop .inners) (l .loop .here .child) (l .loop .here .count) (l .loop .here .next) (l .loop .here .at) (l .loop .below) (l .loop .out) (l .loop .inv) (omega (arith, c .before .before .before .before .before .before .before .before .before .before .before .before .before .before .before .before .before .before .before .before .before .before .before .before .before .before .before .before .if1 .left)) (i .result) (i .ensures)
     (getD (l .loop .inners .nodes) (i .result) noInner) refl (st .result) (st .last .0) (st .ensures .1) in
-    let r = c .before .before .before .before .before .before .before .before .before .before .before .before .before .r .given .0 .0 in
+    let r = c .before .before .before .before .before .before .before .before .before .before .before .before .before .before .r .given .0 .0 in
     let u : Turns (now (a .keys)) (now (a .values)) (a .ll) ns (l .loop .inners .len) (st .result .here) (st .last .0) (Up r) (cn .last .0) =
-    subst (λ (t : Turn). Turns (now (a .keys)) (now (a .values)) (a .ll) ns (l .loop .inners .len) (st .result .here) (st .last .0) t (cn .last .0)) (c .before .before .before .before .before .before .before .before .before .before .before .before .before .r .given .1) (cn .ensures) in
-    let up = goes-then (now (a .keys)) (now (a .values)) (a .ll) (stateOf (a .start .nodes) (a .start .len) Absent 0 0 (a .from)) _ _ (now (a .out)) (st .last .0) _ g (u .1 .1) in
+    subst (λ (t : Turn). Turns (now (a .keys)) (now (a .values)) (a .ll) ns (l .loop .inners .len) (st .result .here) (st .last .0) t (cn .last .0)) (c .before .before .before .before .before .before .before .before .before .before .before .before .before .before .r .given .1) (cn .ensures) in
+    let up = goes-then (now (a .keys)) (now (a .values)) (a .ll) (stateOf (a .start .nodes) (a .start .len) noChild 0 0 (a .from)) _ _ (now (a .out)) (st .last .0) _ g (u .1 .1) in
     let long = cn .kept .0 ∙ st .kept .0 ∙ l .loop .inv .long in
     let five = length-set (l .loop .inners .nodes) (i .result) (st .result .node) ∙ l .loop .inv .five in
-    let en = c .before .before .before .before .before .before .before .before .entry-at in
-    let e = c .before .before .before .before .before .before .e in
+    let en = c .before .before .before .before .before .before .before .before .before .entry-at in
+    let e = c .before .before .before .before .before .before .before .e in
     let w = c .before .before .push in
     rw (c .taken .ensures)
-    (going-grown (now (a .keys)) (now (a .values)) (a .ll) (stateOf (a .start .nodes) (a .start .len) Absent 0 0 (a .from)) (now (a .out)) ns (r .rank) (r .top - r .rank) (r .here .child) (r .here .count) (r .here .next) (r .here .next) (r .here .at) (cn .last .0) up (c .before .before .before .before .before .before .before .before .before .if2 .left) refl (u .1 .0)
+    (going-grown (now (a .keys)) (now (a .values)) (a .ll) (stateOf (a .start .nodes) (a .start .len) noChild 0 0 (a .from)) (now (a .out)) ns (r .rank) (r .top - r .rank) (r .here .child) (r .here .count) (r .here .next) (r .here .next) (r .here .at) (cn .last .0) up (c .before .before .before .before .before .before .before .before .before .before .if2 .left) refl (u .1 .0)
     (e .given .0 .0) (sym (en .ensures) ∙ e .given .1) (w .result) (w .ensures) five (omega (arith, u .0 .0, l .loop .inv .few)) (u .0 .1 .1) long)
 
 pub run-spec : {M : Type 1} → statement M

@@ -5,6 +5,7 @@ use native.Mathlib.Omega.{arith}
 use denote.Ref.{now}
 use lib.ListN.{length}
 use Rattle.builder.specs.declared.map.Shut.{Shut}
+use Rattle.builder.specs.Nodes.{childAt}
 use Rattle.builder.proofs.Leaves.{opened-by}
 use Rattle.builder.proofs.Whole.{depth-bounds, wrote-by}
 use borrow.Author.Needs.{needs}
@@ -34,7 +35,7 @@ returns c =
     let w = wrote-by (now (a .keys)) (now (a .values)) (s .pre .0 .0) (s .pre .0 .1) (s .pre .1 .0) (now (a .out)) (a .at) (s .pre .1 .1)
     (d .result) (q .result) (record { nodes = i .result .nodes; len = d .result }) (d .ensures) (q .ensures) (opened-by (d .result) (i .result) (low .low) (i .ensures)) in
     let r = c .before .before .run in
-    (ap (λ (x : Shut). x .child) (r .ensures .0) ∙ w .child, (ap (λ (x : Shut). x .at) (r .ensures .0) ∙ w .place, r .ensures .1 ∙ w .bytes))
+    (ap (λ (x : Shut). childAt (x .child .0)) (r .ensures .0) ∙ w .child, (ap (λ (x : Shut). x .at) (r .ensures .0) ∙ w .place, r .ensures .1 ∙ w .bytes))
 
 pub serialize-from-ordered-iter-spec : {M : Type 1} → statement M
 serialize-from-ordered-iter-spec =

@@ -1,6 +1,7 @@
 -- `builder::map::shut_node` meets its contract. Assumes nothing.
 use borrow.Author.Needs.{needs}
 use mathlib.Core.Path.{sym, _∙_}
+use native.Mathlib.Omega.{arith}
 use Prim.Native.Nat.{_-_}
 use denote.Ref.{now}
 use lib.ListN.{length}
@@ -21,6 +22,12 @@ close-inner-requires c κs =
     let a = c .before .before .before .before .before .before .args in
     ends-within (length (now (a .out))) (a .at) 112 _ (sym (c .before .before .before .before .fits-at .ensures) ∙ c .before .before .end .given .1) .1
 
+add-t8 : tie.Need-add-t8
+add-t8 c =
+    let s = c .before .before .before .before .before .before .before .before .before in
+    let a = s .args in
+    omega (arith, ends-within (length (now (a .out))) (a .at) 112 _ (sym (c .before .before .before .before .before .before .before .fits-at .ensures) ∙ c .before .before .before .before .before .end .given .1) .1, s .good)
+
 returns-2 : tie.Need-returns-2
 returns-2 c =
     let a = c .before .before .before .before .before .before .before .before .before .args in
@@ -35,5 +42,6 @@ shut-node-spec =
     (search needs)
     returns
     close-inner-requires
+    add-t8
     (search needs)
     returns-2)

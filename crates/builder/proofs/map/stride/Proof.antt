@@ -66,11 +66,14 @@ mul-t18 c = let s = c .before .before .before .before .before .before .before .b
 shared-slice-read-t25 : tie.Need-shared-slice-read-t25 Inv-loop μ-loop
 shared-slice-read-t25 c = let s = c .before .before .before .before .before .before .before .before .before .before .before .before .before .before .before .before .before .before .before in omega (arith, told-of (c .before .before .before .before .before .before .before) .1 .0, c .before .before .before .before .before .before .before .before .before .before .before .before .before .loop .inv .0, s .good, s .pre .0 .0)
 
+add-t19 : tie.Need-add-t19 Inv-loop μ-loop
+add-t19 c = let s = c .before .before .before .before .before .before .before .before .before .before .before .before .before .before .before .before .before .before .before in omega (arith, told-of (c .before .before .before .before .before .before .before) .0 .1, c .before .before .before .before .before .before .before .before .before .before .before .before .before .loop .inv .1 .0, s .good)
+
 push-requires : tie.Need-push-requires Inv-loop μ-loop
 push-requires c κs = c .before .before .before .before .before .before .before .before .before .before .before .if1 .taken
 
-add-t19 : tie.Need-add-t19 Inv-loop μ-loop
-add-t19 c = let s = c .before .before .before .before .before .before .before .before .before .before .before .before .before .before .before .before .before .before .before .before .before in omega (arith, told-of (c .before .before .before .before .before .before .before .before .before) .1 .0, c .before .before .before .before .before .before .before .before .before .before .before .before .before .before .before .loop .inv .0, s .good, s .pre .0 .0)
+add-t19-2 : tie.Need-add-t19-2 Inv-loop μ-loop
+add-t19-2 c = let s = c .before .before .before .before .before .before .before .before .before .before .before .before .before .before .before .before .before .before .before .before .before in omega (arith, told-of (c .before .before .before .before .before .before .before .before .before) .1 .0, c .before .before .before .before .before .before .before .before .before .before .before .before .before .before .before .loop .inv .0, s .good, s .pre .0 .0)
 
 add-t18 : tie.Need-add-t18 Inv-loop μ-loop
 add-t18 c = let s = c .before .before .before .before .before .before .before .before .before .before .before .before .before .before .before .before .before .before .before .before .before in omega (arith, told-of (c .before .before .before .before .before .before .before .before .before) .1 .0, c .before .before .before .before .before .before .before .before .before .before .before .before .before .before .before .loop .inv .0, s .good, s .pre .0 .0)
@@ -120,9 +123,10 @@ stride-spec =
     shared-slice-read-t23
     mul-t18
     shared-slice-read-t25
-    push-requires
     add-t19
+    push-requires
     add-t18
+    add-t19-2
     loop-less
     loop-again
     same-length-2
