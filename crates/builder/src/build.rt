@@ -1,12 +1,12 @@
 // The build of an archive from keys and values: its refusals, the zeros behind the header, the nodes and the record.
-use crate::inline_vec::ChildPos;
-use crate::map::resolve_from_len;
-use crate::map::serialize_from_ordered_iter;
 use crate::size::end_of;
 use crate::size::start_of;
-use crate::words::put_zeros;
 use format::Layout;
 use format::Refusal;
+use nodes::inline_vec::ChildPos;
+use nodes::words::put_zeros;
+use serialize::map::resolve_from_len;
+use serialize::map::serialize_from_ordered_iter;
 ghost use mathlib.Core.Path.{_≡_};
 ghost use Prim.Native.Nat.{_+_, _<_, _≤_};
 ghost use lib.ListN.{length};

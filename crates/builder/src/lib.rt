@@ -1,7 +1,3 @@
-// The builder of an archived B-tree map.
+// The builder of an archive: its refusals, its length and its parts.
 pub mod build;
-pub mod inline_vec;
-pub mod map;
-pub mod ser_vec;
 pub mod size;
-pub mod words;

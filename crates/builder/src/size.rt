@@ -2,41 +2,13 @@
 use fields::ser::writer::Aligned;
 use fields::ser::writer::align;
 use format::Layout;
+use serialize::height::depth_of;
+use serialize::height::power_of_6;
 ghost use mathlib.Core.Path.{_≡_};
 ghost use mathlib.Core.Bool.{true};
-ghost use Prim.Native.Nat.{min, _+_, _-_, _^_, _≤_};
-ghost use Rattle.format.specs.Layout.{layout32};
+ghost use Prim.Native.Nat.{min, _+_, _≤_};
 ghost use Rattle.format.specs.Align.{isAlignment, zerosTo};
-ghost use Rattle.format.specs.Build.{height};
 ghost use Rattle.builder.specs.Size.{weight, endOf};
-
-// The levels above the last one.
-pub(crate) fn depth_of(n: usize) -> usize
-    requires { ⌜ n ≤ 40000 ⌝ }
-    ensures { λ r. ⌜ r ≡ height layout32 n - 1 ⌝ }
-{
-    let mut m = n;
-    let mut d: usize = 0;
-    while 6 <= m {
-        m = m / 6;
-        d += 1;
-    }
-    d
-}
-
-pub(crate) fn power_of_6(d: usize) -> usize
-    requires { ⌜ d ≤ 5 ⌝ }
-    ensures { λ r. ⌜ r ≡ 6 ^ d ⌝ }
-{
-    match d {
-        0 => 1,
-        1 => 6,
-        2 => 36,
-        3 => 216,
-        4 => 1296,
-        _ => 7776,
-    }
-}
 
 fn least(a: usize, b: usize) -> usize
     ensures { λ r. ⌜ r ≡ min a b ⌝ }

@@ -3,7 +3,7 @@ use Prim.Native.Nat.{_-_, _≤_}
 use native.Mathlib.Omega.{arith}
 use denote.Ref.{now}
 use lib.Dec.{lit≤}
-use Rattle.builder.specs.Nodes.{childAt}
+use Rattle.nodes.specs.Nodes.{childAt}
 use Rattle.builder.proofs.Whole.{is-8, end-tree, some-by}
 use borrow.Author.Needs.{needs}
 use Rattle.builder.proofs.build.build_some.Statement.{statement}

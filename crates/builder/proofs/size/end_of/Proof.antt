@@ -3,7 +3,8 @@ use Prim.Native.Nat.{_-_, _≤_}
 use native.Mathlib.Omega.{arith}
 use lib.Dec.{lit≤}
 use Rattle.builder.proofs.Weights.{weight-small}
-use Rattle.builder.proofs.Whole.{depth-bounds, is-4, is-8, end-zero, end-more}
+use Rattle.serialize.proofs.Whole.{depth-bounds}
+use Rattle.builder.proofs.Whole.{is-4, is-8, end-zero, end-more}
 use Rattle.format.specs.Laws.Align.{zeros-lt}
 use borrow.Author.Needs.{needs}
 use Rattle.builder.proofs.size.end_of.Statement.{statement}

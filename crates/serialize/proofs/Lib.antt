@@ -1,0 +1,5 @@
+pub mod Answers
+pub mod Kept
+pub mod Leaves
+pub mod Lists
+pub mod Whole

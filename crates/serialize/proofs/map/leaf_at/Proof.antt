@@ -1,0 +1,43 @@
+-- `serialize::map::leaf_at` meets its contract. Assumes nothing.
+use borrow.Author.Needs.{needs}
+use Prim.Native.Nat.{_-_}
+use native.Mathlib.Nat.{add-zero}
+use Rattle.serialize.proofs.map.leaf_at.Statement.{statement}
+use Rattle.serialize.proofs.map.leaf_at.Tie as tie
+
+returns : tie.Need-returns
+returns c = simp add-zero
+
+pub leaf-at-spec : {M : Type 1} → statement M
+leaf-at-spec =
+    tie.close
+    (tie.spec
+    (search needs)
+    (search needs)
+    (search needs)
+    (search needs)
+    (search needs)
+    (search needs)
+    (search needs)
+    (search needs)
+    (search needs)
+    (search needs)
+    (search needs)
+    (search needs)
+    (search needs)
+    (search needs)
+    (search needs)
+    (search needs)
+    (search needs)
+    (search needs)
+    (search needs)
+    (search needs)
+    (search needs)
+    (search needs)
+    (search needs)
+    (search needs)
+    (search needs)
+    (search needs)
+    (search needs)
+    (search needs)
+    returns)
