@@ -437,48 +437,46 @@ ended-turn ks vs ll s₀ out₀ ns o p out out′ g few same upto (k, (z, (h, e)
     (r .0, e ∙ r .1)
 
 -- All is closed.
-pub going-closed : (ks vs : List ℕ) (ll : ℕ) (s₀ : Building) (out₀ : List ℕ) (ns : List OpenInner) (o p : ℕ) (child : ChildPos) (count next next′ at below : ℕ) (out : List ℕ) →
+pub going-closed : (ks vs : List ℕ) (ll : ℕ) (s₀ : Building) (out₀ : List ℕ) (ns : List OpenInner) (o p : ℕ) (child : ChildPos) (count next at below : ℕ) (out : List ℕ) →
     let c = climbS o ks vs p (stateOf ns o child count next at) out in
-    Goes ks vs ll s₀ out₀ (c .b) (c .out) → o ≡ 0 → below ≡ 0 → next′ ≡ next → length ns ≡ 5 → next′ ≤ length ks → count ≤ next′ → length out ≡ length out₀ →
-    Going ks vs ll s₀ out₀ (record { nodes = ns; len = 0 }) child count next′ at below out
-going-closed ks vs ll s₀ out₀ ns o p child count next next′ at below out g z b n five u s l =
-    let g₁ = subst (λ (k : ℕ). Goes ks vs ll s₀ out₀ (climbS k ks vs p (stateOf ns k child count next at) out .b) (climbS k ks vs p (stateOf ns k child count next at) out .out)) z g in
-    let g₂ = goes-to ks vs ll s₀ out₀ (climbS 0 ks vs p (stateOf ns 0 child count next at) out) (st (stateOf ns 0 child count next at) out) (climb-none ks vs p 0 (stateOf ns 0 child count next at) out (omega arith)) g₁ in
-    record { five = five; few = omega arith; upto = u; seen = s; long = l; goes = rw (b, n) g₂ }
+    Goes ks vs ll s₀ out₀ (c .b) (c .out) → o ≡ 0 → below ≡ 0 → length ns ≡ 5 → next ≤ length ks → count ≤ next → length out ≡ length out₀ →
+    Going ks vs ll s₀ out₀ (record { nodes = ns; len = o }) child count next at below out
+going-closed ks vs ll s₀ out₀ ns o p child count next at below out g z b five u s l =
+    let t = stateOf ns o child count next at in
+    let g′ = goes-to ks vs ll s₀ out₀ (climbS o ks vs p t out) (st t out) (climb-none ks vs p o t out (omega arith)) g in
+    record { five = five; few = omega arith; upto = u; seen = s; long = l; goes = rw b g′ }
 
 -- A node with room takes an entry.
-pub going-grown : (ks vs : List ℕ) (ll : ℕ) (s₀ : Building) (out₀ : List ℕ) (ns : List OpenInner) (o p : ℕ) (child : ChildPos) (count next next′ at : ℕ) (out : List ℕ) →
+pub going-grown : (ks vs : List ℕ) (ll : ℕ) (s₀ : Building) (out₀ : List ℕ) (ns : List OpenInner) (o p : ℕ) (child : ChildPos) (count next at : ℕ) (out : List ℕ) →
     let c = climbS o ks vs p (stateOf ns o child count next at) out in
-    Goes ks vs ll s₀ out₀ (c .b) (c .out) → (o ≡ 0 → ⊥) → next′ ≡ next → Roomy ns o → (e : Pair) → entryAt ks vs next′ ≡ Got e →
+    Goes ks vs ll s₀ out₀ (c .b) (c .out) → (o ≡ 0 → ⊥) → Roomy ns o → (e : Pair) → entryAt ks vs next ≡ Got e →
     (grown : OpenInner) → grown ≡ pushInner (getD ns (o - 1) (record { slots = []; len = 0 })) e child →
-    length ns ≡ 5 → o + p ≤ 5 → count ≤ next′ → length out ≡ length out₀ →
-    Going ks vs ll s₀ out₀ (record { nodes = set ns (o - 1) grown; len = o }) noChild count (next′ + 1) at p out
-going-grown ks vs ll s₀ out₀ ns o p child count next next′ at out g z n room e h grown eg five few s l =
+    length ns ≡ 5 → o + p ≤ 5 → count ≤ next → length out ≡ length out₀ →
+    Going ks vs ll s₀ out₀ (record { nodes = set ns (o - 1) grown; len = o }) noChild count (next + 1) at p out
+going-grown ks vs ll s₀ out₀ ns o p child count next at out g z room e h grown eg five few s l =
     let q : 0 < o = omega (arith, z) in
-    let h′ : entryAt ks vs next ≡ Got e = rw n at h in
-    let far : next < length ks = got-below ks vs next e h′ in
+    let far : next < length ks = got-below ks vs next e h in
     let t = stateOf ns o child count next at in
-    let g₁ = goes-to ks vs ll s₀ out₀ (climbS o ks vs p t out) (st (growAt (Got e) p t) out) (climb-got ks vs p o t out e q (room q) h′) g in
+    let g₁ = goes-to ks vs ll s₀ out₀ (climbS o ks vs p t out) (st (growAt (Got e) p t) out) (climb-got ks vs p o t out e q (room q) h) g in
     record {
       five = length-set ns (o - 1) grown ∙ five;
       few = few;
       upto = omega arith;
       seen = omega arith;
       long = l;
-      goes = rw (eg, n) g₁;
+      goes = rw eg g₁;
     }
 
 -- A node with room, and no entry is left.
-pub ended-low : (ks vs : List ℕ) (ll : ℕ) (s₀ : Building) (out₀ : List ℕ) (ns : List OpenInner) (o p : ℕ) (child : ChildPos) (count next next′ at : ℕ) (out : List ℕ) →
+pub ended-low : (ks vs : List ℕ) (ll : ℕ) (s₀ : Building) (out₀ : List ℕ) (ns : List OpenInner) (o p : ℕ) (child : ChildPos) (count next at : ℕ) (out : List ℕ) →
     let c = climbS o ks vs p (stateOf ns o child count next at) out in
-    Goes ks vs ll s₀ out₀ (c .b) (c .out) → (o ≡ 0 → ⊥) → next′ ≡ next → Roomy ns o → entryAt ks vs next′ ≡ End →
+    Goes ks vs ll s₀ out₀ (c .b) (c .out) → (o ≡ 0 → ⊥) → Roomy ns o → entryAt ks vs next ≡ End →
     (record { child = child; at = at } ≡ leftOf (runS (length ks) ks vs ll s₀ out₀ .b)) × (out ≡ runS (length ks) ks vs ll s₀ out₀ .out)
-ended-low ks vs ll s₀ out₀ ns o p child count next next′ at out g z n room h =
+ended-low ks vs ll s₀ out₀ ns o p child count next at out g z room h =
     let q : 0 < o = omega (arith, z) in
-    let h′ : entryAt ks vs next ≡ End = rw n at h in
     let t = stateOf ns o child count next at in
-    let g₁ = goes-to ks vs ll s₀ out₀ (climbS o ks vs p t out) (st t out) (climb-end ks vs p o t out q (room q) h′) g in
-    ended ks vs ll s₀ out₀ t out g₁ h′
+    let g₁ = goes-to ks vs ll s₀ out₀ (climbS o ks vs p t out) (st t out) (climb-end ks vs p o t out q (room q) h) g in
+    ended ks vs ll s₀ out₀ t out g₁ h
 
 -- ---- the open nodes at the start
 
@@ -490,9 +488,3 @@ opened (suc (suc (suc zero))) h = refl
 opened (suc (suc (suc (suc zero)))) h = refl
 opened (suc (suc (suc (suc (suc zero))))) h = refl
 opened (suc (suc (suc (suc (suc (suc d)))))) h = absurd (omega arith)
-
-pub opened-by : (d : ℕ) (i : OpenInners) → d ≤ 5 → i ≡ newInners → record { nodes = i .nodes; len = d } ≡ reopen d newInners
-opened-by d i h e = ap (λ (x : OpenInners). mk x) e ∙ opened d h
-  where
-    mk : OpenInners → OpenInners
-    mk x = record { nodes = x .nodes; len = d }

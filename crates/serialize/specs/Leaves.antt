@@ -5,7 +5,7 @@ use mathlib.Core.Logic.{_⊎_}
 use mathlib.Core.List.{List, []}
 use lib.ListN.{length, getD, set}
 use lib.Seq.{sets}
-use Rattle.nodes.specs.Nodes.{closedAt, newLeaf, pushLeaf}
+use Rattle.nodes.specs.Nodes.{noChild, closedAt, newLeaf, newInners, pushLeaf}
 use Rattle.serialize.specs.Machine.{St, runS, climbS, transitS, Building}
 use Rattle.nodes.specs.declared.inline_vec.ChildPos.{ChildPos}
 use Rattle.serialize.specs.declared.map.Fit.{Fit}
@@ -107,3 +107,9 @@ Turns ks vs ll ns o p out (Up r) out′ =
     × (let c = climbS (r .rank) ks vs (r .top - r .rank) (stateOf ns (r .rank) (r .here .child) (r .here .count) (r .here .next) (r .here .at)) out′ in
     Goes ks vs ll (stateOf ns o (p .child) (p .count) (p .next) (p .at)) out (c .b) (c .out)))
 Turns ks vs ll ns o p out Short out′ = (k : ℕ) × (Sized k (p .count) ll × ((length ks - p .next < k) × (out′ ≡ out)))
+
+-- All the entries, from position `at` on, with d open inner nodes at the start.
+abbrev pub Ran : List ℕ → List ℕ → ℕ → ℕ → ℕ → List ℕ → Place → List ℕ → Type 0
+Ran ks vs ll d at out r out′ =
+    (let t = runS (length ks) ks vs ll (stateOf (newInners .nodes) d noChild 0 0 at) out in
+    (restOf r ≡ leftOf (t .b)) × (out′ ≡ t .out))

@@ -19,8 +19,8 @@ ghost use Rattle.format.specs.Bytes.{put};
 ghost use Rattle.format.specs.Tree.{lengthBranch, childOf, writeBranch};
 ghost use Rattle.format.specs.Build.{treeOf, recordBytes, pairs};
 ghost use Rattle.nodes.specs.Nodes.{noChild, childAt, leafBytes, innerBytes};
-ghost use Rattle.serialize.specs.Machine.{entryAt, fitOf, fillS, runS};
-ghost use Rattle.serialize.specs.Leaves.{takes, shutOf, outOf, Told, Strides, StridesAt, Rises, Crosses, CrossesAt, Roomy, Sized, Turns, restOf, leftOf, stateOf};
+ghost use Rattle.serialize.specs.Machine.{entryAt, fitOf, fillS};
+ghost use Rattle.serialize.specs.Leaves.{takes, shutOf, outOf, Told, Strides, StridesAt, Rises, Crosses, CrossesAt, Roomy, Sized, Turns, Ran};
 
 // The difference, or 0 where b is larger.
 fn less(a: usize, b: usize) -> usize
@@ -486,27 +486,19 @@ fn close_nodes(
     })
 }
 
-// All the entries, leaf by leaf: where the builder is then.
-fn run(
-    out: &mut [u8],
-    keys: &[u64],
-    values: &[u64],
-    ll: usize,
-    start: OpenInners,
-    from: usize,
-) -> Place
-    requires { ⌜ (length (now keys) ≡ length (now values)) × (start .len ≤ 5) ⌝ }
-    ensures state { λ r. ⌜ restOf r ≡ leftOf (runS (length (now (keys .entry))) (now (keys .entry)) (now (values .entry)) ll (stateOf (start .nodes) (start .len) noChild 0 0 from) (now (out .entry)) .b) ⌝ }
-    ensures bytes { λ r. ⌜ now (out .exit) ≡ runS (length (now (keys .entry))) (now (keys .entry)) (now (values .entry)) ll (stateOf (start .nodes) (start .len) noChild 0 0 from) (now (out .entry)) .out ⌝ }
+// All the entries, leaf by leaf, under d open inner nodes: where the builder is then.
+fn run(out: &mut [u8], keys: &[u64], values: &[u64], ll: usize, d: usize, from: usize) -> Place
+    requires { ⌜ (length (now keys) ≡ length (now values)) × (d ≤ 5) ⌝ }
+    ensures { λ r. ⌜ Ran (now (keys .entry)) (now (values .entry)) ll d from (now (out .entry)) r (now (out .exit)) ⌝ }
 {
-    let mut inners = start;
+    let mut inners = OpenInners::new();
+    inners.len = d;
     let mut here = Place::new(from);
     let mut below: usize = 0;
     loop {
         let rank = inners.len;
         if 0 < below {
-            let fresh = OpenInner::new();
-            inners.nodes[rank] = fresh;
+            inners.nodes[rank] = OpenInner::new();
             inners.len = rank + 1;
             below -= 1;
             continue;
@@ -516,27 +508,22 @@ fn run(
         let s = stride_at(out, keys, values, ll, rank, Low { node, here });
         let held = s.node;
         inners.nodes[i] = held;
-        let low = s.here;
-        let Turn::Up(r) = close_nodes(out, keys, values, ll, inners, low) else {
-            return low;
+        let Turn::Up(r) = close_nodes(out, keys, values, ll, inners, s.here) else {
+            return s.here;
         };
-        let risen = r.here;
+        inners.len = r.rank;
+        here = r.here;
         if r.rank == 0 {
-            inners.len = 0;
-            here = risen;
             continue;
         }
-        let Next::Got(e) = entry_at(keys, values, risen.next) else {
-            return risen;
+        let Next::Got(e) = entry_at(keys, values, here.next) else {
+            return here;
         };
         let j = r.rank - 1;
         let lowest = inners.nodes[j];
-        let lesser = risen.child;
-        let grown = lowest.push(e, lesser);
-        inners.nodes[j] = grown;
-        inners.len = r.rank;
+        inners.nodes[j] = lowest.push(e, here.child);
         below = r.top - r.rank;
-        here = risen.taken();
+        here = here.taken();
     }
 }
 
@@ -552,9 +539,7 @@ pub fn serialize_from_ordered_iter(out: &mut [u8], at: usize, keys: &[u64], valu
     let d = depth_of(n);
     let p = power_of_6(d);
     let ll = n - (p - 1);
-    let mut inners = OpenInners::new();
-    inners.len = d;
-    run(out, keys, values, ll, inners, at)
+    run(out, keys, values, ll, d, at)
 }
 
 // The record: the root's offset and the count.
