@@ -6,7 +6,7 @@ use serialize::height::depth_of;
 use serialize::height::power_of_6;
 ghost use mathlib.Core.Path.{_≡_};
 ghost use mathlib.Core.Bool.{true};
-ghost use Prim.Native.Nat.{min, _+_, _≤_};
+ghost use Prim.Native.Nat.{min, _+_, _-_, _/_, _^_, _<_, _≤_};
 ghost use Rattle.format.specs.Align.{isAlignment, zerosTo};
 ghost use Rattle.builder.specs.Size.{weight, endOf};
 
@@ -14,6 +14,21 @@ fn least(a: usize, b: usize) -> usize
     ensures { λ r. ⌜ r ≡ min a b ⌝ }
 {
     if a < b { a } else { b }
+}
+
+// As many as t entries need where each takes up to `each`.
+fn needed(t: usize, each: usize) -> usize
+    requires { ⌜ (0 < each) × (t + each < 2 ^ 63) ⌝ }
+    ensures { λ r. ⌜ r ≡ (t + (each - 1)) / each ⌝ }
+{
+    (t + (each - 1)) / each
+}
+
+// The entries of the leaves below one inner node where all are full.
+struct Full;
+
+impl Full {
+    const BELOW: usize = Layout::ENTRIES * Layout::CHILDREN;
 }
 
 // The bytes of a subtree with l levels above the last one, which takes at most m entries. Over the last level stand p nodes, of which as many
@@ -29,10 +44,10 @@ fn weight_of(l: usize, m: usize) -> usize
         return Layout::LEAF;
     }
     let p = power_of_6(l - 1);
-    let t = least(m, 30 * p);
-    let leaves = (t + 4) / 5;
-    let inners = (t + 29) / 30;
-    Layout::LEAF * (leaves + (p - inners)) + Layout::INNER * (inners + (p - 1) / 5)
+    let t = least(m, Full::BELOW * p);
+    let leaves = needed(t, Layout::ENTRIES);
+    let inners = needed(t, Full::BELOW);
+    Layout::LEAF * (leaves + (p - inners)) + Layout::INNER * (inners + (p - 1) / Layout::ENTRIES)
 }
 
 // The first position on an alignment, from the header's end on.

@@ -3,8 +3,15 @@ use crate::inline_vec::OpenInner;
 ghost use mathlib.Core.Path.{_≡_};
 ghost use Rattle.nodes.specs.Nodes.{newInners};
 
+// The most inner nodes that are open at a time.
+struct Most;
+
+impl Most {
+    const INNERS: usize = 5;
+}
+
 pub struct OpenInners {
-    pub nodes: [OpenInner; 5],
+    pub nodes: [OpenInner; Most::INNERS],
     pub len: usize,
 }
 
@@ -14,7 +21,7 @@ impl OpenInners {
     {
         let none = OpenInner::new();
         Self {
-            nodes: [none; 5],
+            nodes: [none; Most::INNERS],
             len: 0,
         }
     }

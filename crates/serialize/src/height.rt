@@ -1,4 +1,5 @@
 // The levels of a tree by the number of entries.
+use format::Layout;
 ghost use mathlib.Core.Path.{_≡_};
 ghost use Prim.Native.Nat.{_-_, _^_, _≤_};
 ghost use Rattle.format.specs.Layout.{layout32};
@@ -11,11 +12,26 @@ pub fn depth_of(n: usize) -> usize
 {
     let mut m = n;
     let mut d: usize = 0;
-    while 6 <= m {
-        m = m / 6;
+    while Layout::CHILDREN <= m {
+        m = m / Layout::CHILDREN;
         d += 1;
     }
     d
+}
+
+// The powers of the number of children.
+struct Power;
+
+impl Power {
+    const FIRST: usize = Layout::CHILDREN;
+
+    const SECOND: usize = Self::FIRST * Layout::CHILDREN;
+
+    const THIRD: usize = Self::SECOND * Layout::CHILDREN;
+
+    const FOURTH: usize = Self::THIRD * Layout::CHILDREN;
+
+    const FIFTH: usize = Self::FOURTH * Layout::CHILDREN;
 }
 
 pub fn power_of_6(d: usize) -> usize
@@ -24,10 +40,10 @@ pub fn power_of_6(d: usize) -> usize
 {
     match d {
         0 => 1,
-        1 => 6,
-        2 => 36,
-        3 => 216,
-        4 => 1296,
-        _ => 7776,
+        1 => Power::FIRST,
+        2 => Power::SECOND,
+        3 => Power::THIRD,
+        4 => Power::FOURTH,
+        _ => Power::FIFTH,
     }
 }
