@@ -1,0 +1,105 @@
+// Lists an archive: reads it from standard input and prints a line that says whether it is certified, open or refused, and of an accepted archive
+// each entry of the walk, key and value on a line.
+use fieldmap::WalkAnswer;
+use format::CheckAnswer;
+use libc::STDIN_FILENO;
+use libc::STDOUT_FILENO;
+
+// What the first line says: certified or only accepted, with the recorded count, or refused, with the refusal's number.
+enum Title {
+    Certified(u64),
+    Open(u64),
+    Refused(u64),
+}
+
+fn title(archive: &[u8]) -> Title {
+    if let CheckAnswer::Accepted(count) = fieldmap::certify(archive) {
+        return Title::Certified(count as u64);
+    }
+    match fieldmap::check(archive) {
+        CheckAnswer::Accepted(count) => Title::Open(count as u64),
+        CheckAnswer::Refused(why) => Title::Refused(fieldmap::refusal_number(why)),
+    }
+}
+
+// Puts bytes into the text from a place on. The place after them.
+fn put(text: &mut [u8], at: usize, bytes: &[u8]) -> usize {
+    let mut i = 0;
+    while i < bytes.len() {
+        text[at + i] = bytes[i];
+        i += 1;
+    }
+    at + i
+}
+
+fn put_decimal(text: &mut [u8], at: usize, number: u64) -> usize {
+    let mut digits = [0u8; 20];
+    let count = io::decimal(number, &mut digits);
+    put(text, at, &digits[..count])
+}
+
+// A word, a number and the end of the line.
+fn put_counted(text: &mut [u8], word: &[u8], number: u64) -> usize {
+    let after_word = put(text, 0, word);
+    let after_number = put_decimal(text, after_word, number);
+    put(text, after_number, b"\n")
+}
+
+fn put_title(text: &mut [u8], title: Title) -> usize {
+    match title {
+        Title::Certified(count) => put_counted(text, b"certified ", count),
+        Title::Open(count) => put_counted(text, b"open ", count),
+        Title::Refused(number) => put_counted(text, b"refused ", number),
+    }
+}
+
+fn put_entry(text: &mut [u8], at: usize, key: u64, value: u64) -> usize {
+    let after_key = put_decimal(text, at, key);
+    let after_space = put(text, after_key, b" ");
+    let after_value = put_decimal(text, after_space, value);
+    put(text, after_value, b"\n")
+}
+
+// The first `count` entries.
+fn put_entries(text: &mut [u8], at: usize, keys: &[u64], values: &[u64], count: usize) -> usize {
+    let mut end = at;
+    let mut i = 0;
+    while i < count {
+        end = put_entry(text, end, keys[i], values[i]);
+        i += 1;
+    }
+    end
+}
+
+// Puts the whole text at the start. Its length.
+fn put_listing(text: &mut [u8], archive: &[u8]) -> usize {
+    let mut keys = [0u64; 4096];
+    let mut values = [0u64; 4096];
+    let end = put_title(text, title(archive));
+    match fieldmap::walk(archive, &mut keys, &mut values) {
+        WalkAnswer::Refused(_) => end,
+        WalkAnswer::Walked(written, _) => put_entries(text, end, &keys, &values, written),
+    }
+}
+
+fn print_listing(archive: &[u8]) {
+    let mut text = [0u8; 172063];
+    let length = put_listing(&mut text, archive);
+    io::write_all(STDOUT_FILENO, &text[..length]);
+}
+
+// Whether a byte is left in the input.
+fn has_more() -> bool {
+    let mut next = [0u8; 1];
+    io::read_full(STDIN_FILENO, &mut next) == 1
+}
+
+fn main() {
+    let mut buffer = io::large_buffer();
+    let length = io::read_full(STDIN_FILENO, &mut buffer);
+    if length == buffer.len() && has_more() {
+        io::write_all(STDOUT_FILENO, b"refused 1\n");
+        return;
+    }
+    print_listing(&buffer[..length]);
+}
