@@ -4,6 +4,11 @@ use fieldmap::WalkAnswer;
 use format::CheckAnswer;
 use libc::STDIN_FILENO;
 use libc::STDOUT_FILENO;
+ghost use mathlib.Core.Path.{_≡_};
+ghost use mathlib.Core.List.{[], _∷_, _++_};
+ghost use Prim.Native.Nat.{_+_, _*_, _≤_};
+ghost use lib.ListN.{length, take};
+ghost use Rattle.fieldlist.specs.Listing.{decimal, title, titleLine, entryLine, firstLines, listing};
 
 // What the first line says: certified or only accepted, with the recorded count, or refused, with the refusal's number.
 enum Title {
@@ -12,7 +17,9 @@ enum Title {
     Refused(u64),
 }
 
-fn title(archive: &[u8]) -> Title {
+fn title_of(archive: &[u8]) -> Title
+    ensures { λ r. ⌜ r ≡ title (now (archive .entry)) ⌝ }
+{
     if let CheckAnswer::Accepted(count) = fieldmap::certify(archive) {
         return Title::Certified(count as u64);
     }
@@ -23,7 +30,11 @@ fn title(archive: &[u8]) -> Title {
 }
 
 // Puts bytes into the text from a place on. The place after them.
-fn put(text: &mut [u8], at: usize, bytes: &[u8]) -> usize {
+fn put(text: &mut [u8], at: usize, bytes: &[u8]) -> usize
+    requires { ⌜ at + length (now bytes) ≤ length (now text) ⌝ }
+    ensures end { λ r. ⌜ r ≡ at + length (now (bytes .entry)) ⌝ }
+    ensures text { λ r. ⌜ take r (now (text .exit)) ≡ take at (now (text .entry)) ++ now (bytes .entry) ⌝ }
+{
     let mut i = 0;
     while i < bytes.len() {
         text[at + i] = bytes[i];
@@ -32,20 +43,32 @@ fn put(text: &mut [u8], at: usize, bytes: &[u8]) -> usize {
     at + i
 }
 
-fn put_decimal(text: &mut [u8], at: usize, number: u64) -> usize {
+fn put_decimal(text: &mut [u8], at: usize, number: u64) -> usize
+    requires { ⌜ at + 20 ≤ length (now text) ⌝ }
+    ensures end { λ r. ⌜ r ≤ at + 20 ⌝ }
+    ensures text { λ r. ⌜ take r (now (text .exit)) ≡ take at (now (text .entry)) ++ decimal number ⌝ }
+{
     let mut digits = [0u8; 20];
     let count = io::decimal(number, &mut digits);
     put(text, at, &digits[..count])
 }
 
 // A word, a number and the end of the line.
-fn put_counted(text: &mut [u8], word: &[u8], number: u64) -> usize {
+fn put_counted(text: &mut [u8], word: &[u8], number: u64) -> usize
+    requires { ⌜ length (now word) + 21 ≤ length (now text) ⌝ }
+    ensures end { λ r. ⌜ r ≤ length (now (word .entry)) + 21 ⌝ }
+    ensures text { λ r. ⌜ take r (now (text .exit)) ≡ now (word .entry) ++ decimal number ++ (10 ∷ []) ⌝ }
+{
     let after_word = put(text, 0, word);
     let after_number = put_decimal(text, after_word, number);
     put(text, after_number, b"\n")
 }
 
-fn put_title(text: &mut [u8], title: Title) -> usize {
+fn put_title(text: &mut [u8], title: Title) -> usize
+    requires { ⌜ 31 ≤ length (now text) ⌝ }
+    ensures end { λ r. ⌜ r ≤ 31 ⌝ }
+    ensures text { λ r. ⌜ take r (now (text .exit)) ≡ titleLine title ⌝ }
+{
     match title {
         Title::Certified(count) => put_counted(text, b"certified ", count),
         Title::Open(count) => put_counted(text, b"open ", count),
@@ -53,7 +76,11 @@ fn put_title(text: &mut [u8], title: Title) -> usize {
     }
 }
 
-fn put_entry(text: &mut [u8], at: usize, key: u64, value: u64) -> usize {
+fn put_entry(text: &mut [u8], at: usize, key: u64, value: u64) -> usize
+    requires { ⌜ at + 42 ≤ length (now text) ⌝ }
+    ensures end { λ r. ⌜ r ≤ at + 42 ⌝ }
+    ensures text { λ r. ⌜ take r (now (text .exit)) ≡ take at (now (text .entry)) ++ entryLine key value ⌝ }
+{
     let after_key = put_decimal(text, at, key);
     let after_space = put(text, after_key, b" ");
     let after_value = put_decimal(text, after_space, value);
@@ -61,7 +88,12 @@ fn put_entry(text: &mut [u8], at: usize, key: u64, value: u64) -> usize {
 }
 
 // The first `count` entries.
-fn put_entries(text: &mut [u8], at: usize, keys: &[u64], values: &[u64], count: usize) -> usize {
+fn put_entries(text: &mut [u8], at: usize, keys: &[u64], values: &[u64], count: usize) -> usize
+    requires { ⌜ (at + 42 * count ≤ length (now text)) × (count ≤ length (now keys)) × (count ≤ length (now values)) ⌝ }
+    ensures end { λ r. ⌜ r ≤ at + 42 * count ⌝ }
+    ensures text { λ r. ⌜ take r (now (text .exit))
+        ≡ take at (now (text .entry)) ++ firstLines (now (keys .entry)) (now (values .entry)) count ⌝ }
+{
     let mut end = at;
     let mut i = 0;
     while i < count {
@@ -72,17 +104,23 @@ fn put_entries(text: &mut [u8], at: usize, keys: &[u64], values: &[u64], count: 
 }
 
 // Puts the whole text at the start. Its length.
-fn put_listing(text: &mut [u8], archive: &[u8]) -> usize {
+fn put_listing(text: &mut [u8], archive: &[u8]) -> usize
+    requires { ⌜ (length (now archive) ≤ 65536) × (172063 ≤ length (now text)) ⌝ }
+    ensures end { λ r. ⌜ r ≤ 172063 ⌝ }
+    ensures text { λ r. ⌜ take r (now (text .exit)) ≡ listing (now (archive .entry)) ⌝ }
+{
     let mut keys = [0u64; 4096];
     let mut values = [0u64; 4096];
-    let end = put_title(text, title(archive));
+    let end = put_title(text, title_of(archive));
     match fieldmap::walk(archive, &mut keys, &mut values) {
         WalkAnswer::Refused(_) => end,
         WalkAnswer::Walked(written, _) => put_entries(text, end, &keys, &values, written),
     }
 }
 
-fn print_listing(archive: &[u8]) {
+fn print_listing(archive: &[u8])
+    requires { ⌜ length (now archive) ≤ 65536 ⌝ }
+{
     let mut text = [0u8; 172063];
     let length = put_listing(&mut text, archive);
     io::write_all(STDOUT_FILENO, &text[..length]);
