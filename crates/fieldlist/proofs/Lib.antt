@@ -1,1 +1,4 @@
-pub mod Texts
+-- What the proofs of several functions use.
+mod Texts
+mod Room
+mod Listed

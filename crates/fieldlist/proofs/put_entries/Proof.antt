@@ -48,13 +48,14 @@ loop-again : tie.Need-loop-again Inv-loop μ-loop
 loop-again c =
     let s = c .before .before .before .before .before .before .before .before .before .before .before .args in
     let l = c .before .before .before .before .before .before .before .loop in
-    let e = c .before .before .put-entry in
-    (omega arith,
+    let e = c .before .before .put-entry in (
+      omega arith,
       omega (arith, e .ensures .0, l .inv .1),
       search needs,
       e .ensures .1
           ∙ ap (λ (t : List ℕ). t ++ entryLine (getD (s .keys .now) (l .i) 0) (getD (s .values .now) (l .i) 0)) (l .inv .3)
-          ∙ line-more (take (s .at) (s .text .now)) (s .keys .now) (s .values .now) (l .i))
+          ∙ line-more (take (s .at) (s .text .now)) (s .keys .now) (s .values .now) (l .i),
+    )
 
 same-length : tie.Need-same-length Inv-loop μ-loop
 same-length c = search needs

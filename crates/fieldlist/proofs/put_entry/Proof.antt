@@ -41,11 +41,12 @@ returns c =
     let e = c .before .before .put2 in
     let v = c .before .before .before .before .before .before .before .put-decimal2 in
     let w = c .before .before .before .before .before .before .before .before .before .before .before .put in
-    let k = c .before .before .before .before .before .before .before .before .before .before .before .before .before .before .before .before .put-decimal in
-    (omega (arith, e .ensures .0, v .ensures .0, w .ensures .0, k .ensures .0),
+    let k = c .before .before .before .before .before .before .before .before .before .before .before .before .before .before .before .before .put-decimal in (
+      omega (arith, e .ensures .0, v .ensures .0, w .ensures .0, k .ensures .0),
       e .ensures .1
           ∙ ap (λ (l : List ℕ). l ++ (10 ∷ [])) (v .ensures .1 ∙ ap (λ (l : List ℕ). l ++ decimal (s .args .value)) (w .ensures .1 ∙ ap (λ (l : List ℕ). l ++ (32 ∷ [])) (k .ensures .1)))
-          ∙ behind (take (s .args .at) (s .args .text .now)) (decimal (s .args .key)) (32 ∷ []) (decimal (s .args .value)) (10 ∷ []))
+          ∙ behind (take (s .args .at) (s .args .text .now)) (decimal (s .args .key)) (32 ∷ []) (decimal (s .args .value)) (10 ∷ []),
+    )
 
 pub put-entry-spec : {M : Type 1} → statement M
 put-entry-spec =
