@@ -1,5 +1,5 @@
-// Lists an archive: reads it from standard input and prints a line that says whether it is certified, open or refused, and of an accepted archive
-// each entry of the walk, key and value on a line.
+// Lists an archive of at most 65,536 bytes: reads it from standard input and prints a line that says whether it is certified, open or refused, and
+// of an accepted archive each entry of the walk, key and value on a line. The text is `listing` of specs/Listing.antt.
 use fieldmap::WalkAnswer;
 use format::CheckAnswer;
 use libc::STDIN_FILENO;
@@ -9,6 +9,13 @@ ghost use mathlib.Core.List.{[], _∷_, _++_};
 ghost use Prim.Native.Nat.{_+_, _*_, _≤_};
 ghost use lib.ListN.{length, take};
 ghost use Rattle.fieldlist.specs.Listing.{decimal, title, titleLine, entryLine, firstLines, listing};
+
+// More than the entries of any accepted archive of 65,536 bytes (proofs/Room.antt): a leaf has 96 bytes, an inner node 112, no two share a byte, and
+// each has at most 5 entries of its own.
+const MOST_ENTRIES: usize = 4096;
+
+// Bytes for the longest text: a first line has at most 31, the line of an entry at most 42.
+const LONGEST_TEXT: usize = 31 + 42 * MOST_ENTRIES;
 
 // What the first line says: certified or only accepted, with the recorded count, or refused, with the refusal's number.
 enum Title {
@@ -53,7 +60,7 @@ fn put_decimal(text: &mut [u8], at: usize, number: u64) -> usize
     put(text, at, &digits[..count])
 }
 
-// A word, a number and the end of the line.
+// A line at the start of the text: a word and a number.
 fn put_counted(text: &mut [u8], word: &[u8], number: u64) -> usize
     requires { ⌜ length (now word) + 21 ≤ length (now text) ⌝ }
     ensures end { λ r. ⌜ r ≤ length (now (word .entry)) + 21 ⌝ }
@@ -76,6 +83,7 @@ fn put_title(text: &mut [u8], title: Title) -> usize
     }
 }
 
+// The line of an entry.
 fn put_entry(text: &mut [u8], at: usize, key: u64, value: u64) -> usize
     requires { ⌜ at + 42 ≤ length (now text) ⌝ }
     ensures end { λ r. ⌜ r ≤ at + 42 ⌝ }
@@ -87,7 +95,7 @@ fn put_entry(text: &mut [u8], at: usize, key: u64, value: u64) -> usize
     put(text, after_value, b"\n")
 }
 
-// The first `count` entries.
+// The lines of the first `count` entries.
 fn put_entries(text: &mut [u8], at: usize, keys: &[u64], values: &[u64], count: usize) -> usize
     requires { ⌜ (at + 42 * count ≤ length (now text)) × (count ≤ length (now keys)) × (count ≤ length (now values)) ⌝ }
     ensures end { λ r. ⌜ r ≤ at + 42 * count ⌝ }
@@ -103,14 +111,14 @@ fn put_entries(text: &mut [u8], at: usize, keys: &[u64], values: &[u64], count: 
     end
 }
 
-// Puts the whole text at the start. Its length.
+// The whole text. Its length.
 fn put_listing(text: &mut [u8], archive: &[u8]) -> usize
     requires { ⌜ (length (now archive) ≤ 65536) × (172063 ≤ length (now text)) ⌝ }
     ensures end { λ r. ⌜ r ≤ 172063 ⌝ }
     ensures text { λ r. ⌜ take r (now (text .exit)) ≡ listing (now (archive .entry)) ⌝ }
 {
-    let mut keys = [0u64; 4096];
-    let mut values = [0u64; 4096];
+    let mut keys = [0u64; MOST_ENTRIES];
+    let mut values = [0u64; MOST_ENTRIES];
     let end = put_title(text, title_of(archive));
     match fieldmap::walk(archive, &mut keys, &mut values) {
         WalkAnswer::Refused(_) => end,
@@ -121,7 +129,7 @@ fn put_listing(text: &mut [u8], archive: &[u8]) -> usize
 fn print_listing(archive: &[u8])
     requires { ⌜ length (now archive) ≤ 65536 ⌝ }
 {
-    let mut text = [0u8; 172063];
+    let mut text = [0u8; LONGEST_TEXT];
     let length = put_listing(&mut text, archive);
     io::write_all(STDOUT_FILENO, &text[..length]);
 }
@@ -132,6 +140,7 @@ fn has_more() -> bool {
     io::read_full(STDIN_FILENO, &mut next) == 1
 }
 
+// A read that fails counts as the end of the input.
 fn main() {
     let mut buffer = io::large_buffer();
     let length = io::read_full(STDIN_FILENO, &mut buffer);
