@@ -1,9 +1,9 @@
 -- What a walk over two lists of 4,096 places leaves, as the text's lines. Assumes nothing.
-use Prim.Native.Nat.{ℕ, zero, suc, _+_, _≤_}
+use Prim.Native.Nat.{ℕ, zero, suc, _≤_}
 use mathlib.Core.Path.{_≡_, refl, sym, ap, _∙_}
 use mathlib.Core.List.{List, [], _∷_, _++_, map, append-assoc, append-nil}
 use native.Mathlib.Omega.{arith}
-use lib.ListN.{length, take, getD, length-map}
+use lib.ListN.{length, getD, length-map}
 use lib.Seq.{take-all}
 use Rattle.format.specs.declared.Entry.{Entry}
 use Rattle.format.specs.Layout.{layout32, standard}

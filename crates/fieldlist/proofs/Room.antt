@@ -1,7 +1,6 @@
 -- Entries take room: an archive of 65,536 bytes has at most 4,096. A node holds at most 5 entries of its own and has at least 96 bytes, and no two
 -- nodes of an accepted archive share a byte. Assumes nothing.
 use Prim.Native.Nat.{ℕ, zero, suc, _+_, _*_, _≤_, _<_}
-use mathlib.Core.Path.{_≡_, refl}
 use mathlib.Core.List.{List}
 use native.Mathlib.Decide.{decLt}
 use native.Mathlib.Omega.{arith}
@@ -11,8 +10,7 @@ use Rattle.format.specs.Node.{sizeAt}
 use Rattle.format.specs.Check.{root, recorded}
 use Rattle.format.specs.Entries.{list}
 use Rattle.format.specs.Laws.Archive.{Archive, list-length}
-use Rattle.format.specs.Laws.Reach.{inside}
-use Rattle.format.specs.Laws.Valid.{ChildOk, gone, there, ChildrenOk, last, more, NodeOk, leafOk, innerOk, Holds, Valid}
+use Rattle.format.specs.Laws.Valid.{ChildOk, gone, there, ChildrenOk, last, more, NodeOk, leafOk, innerOk, Holds}
 
 module _ (s : List ℕ) where
   -- The n entries of a node at p and of those below it fit between lo and its end, and the end lies in the range.

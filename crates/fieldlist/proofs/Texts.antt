@@ -1,23 +1,20 @@
 -- Laws of the text: bytes put behind others, digits, lines, and the first line. Assumes nothing.
 use Prim.Native.Nat.{ℕ, zero, suc, _+_, _-_, _/_, _%_, _^_, _<_, _≤_}
-use mathlib.Core.Path.{_≡_, refl, sym, ap, _∙_}
+use mathlib.Core.Path.{_≡_, sym, _∙_}
 use mathlib.Core.List.{List, [], _∷_, _++_, append-assoc, append-nil}
 use native.Mathlib.Numerals.{add-one}
 use native.Mathlib.Omega.{arith}
-use mathlib.Core.Bool.{cond}
 use native.Mathlib.Decide.{decLt}
 use native.Mathlib.Nat.{one-le-pow, pow-le-pow-right}
-use lib.Dec.{ltb}
 use borrow.Author.Tests.{le-ltb, lt-ltb}
 use lib.ListN.{length, take, set, getD}
 use lib.Seq.{take-suc, take-suc-set}
 use Rattle.io.specs.Digits.{glyph, digits, Fewest}
 use Rattle.format.specs.Layout.{layout32, standard}
 use Rattle.format.specs.Refusal.{gives, refuses}
-use Rattle.format.specs.Check.{Checked, accepted, refused, counted, checkArchive}
+use Rattle.format.specs.Check.{counted, checkArchive}
 use Rattle.format.specs.Certify.{certify}
 use Rattle.format.specs.Laws.Opened.{gives-inv, refuses-inv, certify-refuses}
-use Rattle.fieldlist.specs.declared.Title.{Title}
 use Rattle.fieldlist.specs.declared.Title.the-variants.{Certified, Open, Refused}
 use Rattle.fieldlist.specs.Listing.{decimalOf, decimal, title, entryLine, firstLines}
 

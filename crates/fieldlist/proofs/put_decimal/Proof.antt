@@ -8,28 +8,12 @@ use borrow.Author.Needs.{needs}
 use Rattle.fieldlist.proofs.Texts.{decimal-is, twenty-digits}
 use Rattle.fieldlist.proofs.put_decimal.Statement.{statement}
 use Rattle.fieldlist.proofs.put_decimal.Tie as tie
-use Rattle.fieldlist.proofs.put_decimal.Reads as reads
-use Rattle.fieldlist.proofs.put_decimal.Lts as lts
-use Rattle.fieldlist.proofs.put.Reads as put-reads
-use Rattle.io.proofs.decimal.Reads as decimal-reads
-
-decimal-requires : tie.Need-decimal-requires
-decimal-requires c κs = search needs
-
-array-share-prefix-digits : tie.Need-array-share-prefix-digits
-array-share-prefix-digits c = search needs
-
-slice-aggregate-put : tie.Need-slice-aggregate-put
-slice-aggregate-put c = search needs
 
 put-requires : tie.Need-put-requires
 put-requires c κs =
     let d = c .before .before .decimal in
     let few = twenty-digits _ (d .result) (c .before .before .before .before .before .fits .number .fits) (d .ensures .1 .0) in
     omega (arith, few, d .ensures .0 .1)
-
-same-length : tie.Need-same-length
-same-length c = search needs
 
 returns : tie.Need-returns
 returns c =
@@ -44,9 +28,9 @@ pub put-decimal-spec : {M : Type 1} → statement M
 put-decimal-spec =
     tie.close
     (tie.spec
-    decimal-requires
-    array-share-prefix-digits
-    slice-aggregate-put
+    (search needs)
+    (search needs)
+    (search needs)
     put-requires
-    same-length
+    (search needs)
     returns)

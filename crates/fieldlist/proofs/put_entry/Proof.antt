@@ -9,31 +9,6 @@ use Rattle.fieldlist.specs.Listing.{decimal}
 use Rattle.fieldlist.proofs.Texts.{behind}
 use Rattle.fieldlist.proofs.put_entry.Statement.{statement}
 use Rattle.fieldlist.proofs.put_entry.Tie as tie
-use Rattle.fieldlist.proofs.put_entry.Reads as reads
-use Rattle.fieldlist.proofs.put_entry.Lts as lts
-use Rattle.fieldlist.proofs.put.Reads as put-reads
-use Rattle.fieldlist.proofs.put_decimal.Reads as put-decimal-reads
-
-put-decimal-requires : tie.Need-put-decimal-requires
-put-decimal-requires c κs = search needs
-
-slice-aggregate-put : tie.Need-slice-aggregate-put
-slice-aggregate-put c = search needs
-
-put-requires : tie.Need-put-requires
-put-requires c κs = search needs
-
-put-decimal-requires-2 : tie.Need-put-decimal-requires-2
-put-decimal-requires-2 c κs = search needs
-
-slice-aggregate-put-2 : tie.Need-slice-aggregate-put-2
-slice-aggregate-put-2 c = search needs
-
-put-requires-2 : tie.Need-put-requires-2
-put-requires-2 c κs = search needs
-
-same-length : tie.Need-same-length
-same-length c = search needs
 
 returns : tie.Need-returns
 returns c =
@@ -52,11 +27,11 @@ pub put-entry-spec : {M : Type 1} → statement M
 put-entry-spec =
     tie.close
     (tie.spec
-    put-decimal-requires
-    slice-aggregate-put
-    put-requires
-    put-decimal-requires-2
-    slice-aggregate-put-2
-    put-requires-2
-    same-length
+    (search needs)
+    (search needs)
+    (search needs)
+    (search needs)
+    (search needs)
+    (search needs)
+    (search needs)
     returns)

@@ -1,5 +1,5 @@
 -- `fieldlist::title_of` meets its contract. Assumes nothing.
-use mathlib.Core.Path.{_≡_, sym, ap, _∙_}
+use mathlib.Core.Path.{sym, ap, _∙_}
 use Rattle.format.specs.Refusal.{checkOf}
 use Rattle.fieldlist.specs.declared.Title.the-variants.{Refused}
 use borrow.Author.Needs.{needs}
