@@ -1,5 +1,6 @@
-//! The programs `compare`, `answers` and, with the feature `ours`, `builds`.
+//! The programs `compare`, `answers`, `make_examples` and, with the feature `ours`, `builds`.
 
+use std::path::Path;
 use std::process::{Command, Output};
 use std::{env, fs};
 
@@ -68,4 +69,26 @@ fn replay() {
     ] {
         assert!(has(line), "{line}");
     }
+}
+
+/// The stored examples are those that the program writes.
+#[test]
+fn examples() {
+    let folder = env::temp_dir().join(format!("examples-{}", std::process::id()));
+    fs::create_dir_all(&folder).unwrap();
+    let output = run(
+        env!("CARGO_BIN_EXE_make_examples"),
+        &[folder.to_str().unwrap()],
+    );
+    assert!(output.status.success());
+    let stored = Path::new(env!("CARGO_MANIFEST_DIR")).join("../examples");
+    let mut number = 0;
+    for file in fs::read_dir(&folder).unwrap() {
+        let file = file.unwrap();
+        let (name, written) = (file.file_name(), fs::read(file.path()).unwrap());
+        assert_eq!(written, fs::read(stored.join(&name)).unwrap(), "{name:?}");
+        number += 1;
+    }
+    fs::remove_dir_all(&folder).unwrap();
+    assert_eq!(number, 22);
 }
