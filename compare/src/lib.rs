@@ -6,5 +6,7 @@ pub mod counts;
 pub mod model;
 #[cfg(feature = "ours")]
 pub mod ours;
+pub mod questions;
 pub mod rkyv_map;
+pub mod rkyv_parts;
 pub mod trees;

@@ -1,12 +1,16 @@
-//! Document 01's text, read off the bytes without rkyv: the check, the list of an accepted archive, certification and ranges.
+//! Document 01's text without rkyv: the check, the list of an accepted archive, certification and ranges, read off the bytes; what refuses
+//! a build and an alignment step; key packing and column queries.
 //!
-//! rkyv has no counterpart to refusals 1, 8 and 9 and answers crossed ranges otherwise; there this module is the reference. Where rkyv has
-//! one, the program `compare` holds this module to it.
+//! rkyv has no counterpart to refusals 1, 8 to 14, 17 and 18 nor to key packing, and answers crossed ranges otherwise; there this module is
+//! the reference. Where rkyv has one, the program `compare` holds this module to it.
 
 use std::ops::Bound;
 
 /// Refusal 1: "N is above 1,048,576."
 const LONGEST: usize = 1_048_576;
+/// Refusals 11 and 13: "More than 40,000 entries are given." "The header is longer than 4,096 bytes."
+pub const MOST_GIVEN: usize = 40_000;
+pub const LONGEST_HEADER: u64 = 4_096;
 /// "Depth starts at 16".
 const DEPTH: u32 = 16;
 /// "E = 5 entries a node".
@@ -274,4 +278,90 @@ pub fn range(bytes: &[u8], lower: Bound<u64>, upper: Bound<u64>) -> Vec<Entry> {
     let mut entries = list(bytes);
     entries.retain(|entry| meets_lower(entry.key) && meets_upper(entry.key));
     entries
+}
+
+/// What stands before a build of these lists, behind a header of this length, and in an output of this length, which the archive and what
+/// is before it fill up to `end`: 10 to 14, the first of them, or nothing.
+pub fn build_fault(
+    keys: &[u64],
+    values: &[u64],
+    header: u64,
+    end: impl FnOnce() -> usize,
+    output: usize,
+) -> Option<u8> {
+    if keys.len() != values.len() {
+        Some(10)
+    } else if keys.len() > MOST_GIVEN {
+        Some(11)
+    } else if keys.windows(2).any(|pair| pair[1] <= pair[0]) {
+        Some(12)
+    } else if header > LONGEST_HEADER {
+        Some(13)
+    } else if end() > output {
+        Some(14)
+    } else {
+        None
+    }
+}
+
+/// Whether 17 lets an alignment step through: "Alignment is not 1, 2, 4, 8, 16 or 32, or the padded position passes the largest u64."
+pub fn aligns(position: u64, alignment: u64) -> bool {
+    matches!(alignment, 1 | 2 | 4 | 8 | 16 | 32)
+        && position.checked_next_multiple_of(alignment).is_some()
+}
+
+/// The fields of a key.
+pub struct KeyFields {
+    pub examination: u32,
+    pub eye: u8,
+    pub x: i8,
+    pub y: i8,
+    pub presentation: u32,
+}
+
+/// "most significant first: examination 24 bits, eye 1, x 8 and y 8 in two's complement degrees, presentation 23", or 18.
+pub fn pack(fields: &KeyFields) -> Result<u64, u8> {
+    if fields.examination >= 1 << 24 || fields.eye > 1 || fields.presentation >= 1 << 23 {
+        return Err(18);
+    }
+    let key = u64::from(fields.examination) << 1 | u64::from(fields.eye);
+    let key = key << 8 | u64::from(fields.x as u8);
+    let key = key << 8 | u64::from(fields.y as u8);
+    Ok(key << 23 | u64::from(fields.presentation))
+}
+
+pub fn unpack(key: u64) -> KeyFields {
+    KeyFields {
+        examination: (key >> 40) as u32,
+        eye: (key >> 39 & 1) as u8,
+        x: (key >> 31) as i8,
+        y: (key >> 23) as i8,
+        presentation: (key & 0x7f_ffff) as u32,
+    }
+}
+
+/// A column query: "takes x from a to b".
+#[derive(Clone, Copy)]
+pub struct Column {
+    pub examination: u32,
+    pub eye: u8,
+    pub a: i8,
+    pub b: i8,
+}
+
+/// "the range of keys from (a, y bits zero, presentation 0) to (b, y bits all ones, largest presentation), both included", or 18.
+pub fn column(column: Column) -> Result<(Bound<u64>, Bound<u64>), u8> {
+    let bound = |x, y, presentation| {
+        let (examination, eye) = (column.examination, column.eye);
+        pack(&KeyFields {
+            examination,
+            eye,
+            x,
+            y,
+            presentation,
+        })
+    };
+    let lower = bound(column.a, 0, 0)?;
+    let upper = bound(column.b, -1, (1 << 23) - 1)?;
+    Ok((Bound::Included(lower), Bound::Included(upper)))
 }

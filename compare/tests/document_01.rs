@@ -4,11 +4,11 @@ use std::mem::MaybeUninit;
 use std::ops::Bound;
 
 use compare::by_hand::Output;
+use compare::model::KeyFields;
 use compare::rkyv_map::{build, by_key, Accepted, Archive};
-use compare::{cases, model};
+use compare::{cases, model, rkyv_parts};
 use rkyv::rancor::BoxedError;
-use rkyv::rel_ptr::{signed_offset, RawRelPtrI32};
-use rkyv::ser::WriterExt;
+use rkyv::rel_ptr::RawRelPtrI32;
 use rkyv::Place;
 
 /// rkyv's check, as a number.
@@ -28,22 +28,13 @@ fn offset_at(bytes: &[u8], field: usize) -> i32 {
     i32::from_le_bytes(bytes[field..field + 4].try_into().unwrap())
 }
 
-/// An offset as rkyv stores it in a field at one position that leads to another.
-fn stored(from: usize, to: usize) -> Result<i32, BoxedError> {
-    let mut field = MaybeUninit::<RawRelPtrI32>::zeroed();
-    // SAFETY: the pointer is to a local of the right type, all of whose bytes are set.
-    let place = unsafe { Place::new_unchecked(from, field.as_mut_ptr()) };
-    RawRelPtrI32::try_emplace(to, place)?;
-    Ok(i32::from_le_bytes(place.as_slice().try_into().unwrap()))
-}
-
 #[test]
 fn cases_1_and_2() {
-    let difference = |from, to| signed_offset::<BoxedError>(from, to).ok();
-    assert_eq!(difference(1 << 63, 0), Some(i64::MIN as isize));
-    assert_eq!(difference(0, 1 << 63), None);
-    assert_eq!(stored(0, (1 << 31) - 1).unwrap(), i32::MAX);
-    assert!(stored(0, 1 << 31).is_err());
+    assert_eq!(rkyv_parts::distance(1 << 63, 0), Ok(i64::MIN));
+    assert_eq!(rkyv_parts::distance(0, 1 << 63), Err(15));
+    assert_eq!(rkyv_parts::offset(0, (1 << 31) - 1), Ok(i32::MAX));
+    assert_eq!(rkyv_parts::offset(0, 1 << 31), Err(16));
+    assert_eq!(rkyv_parts::offset(0, 1 << 63), Err(15));
 }
 
 /// An absent mark at the largest position is refused, as a release build does; a debug build stops at the sum.
@@ -51,22 +42,71 @@ fn cases_1_and_2() {
 #[cfg_attr(debug_assertions, should_panic(expected = "overflow"))]
 fn absent_at_the_largest_position() {
     let mut field = MaybeUninit::<RawRelPtrI32>::zeroed();
-    // SAFETY: as above.
+    // SAFETY: the pointer is to a local of the right type, all of whose bytes are set.
     let place = unsafe { Place::new_unchecked(usize::MAX, field.as_mut_ptr()) };
     assert!(RawRelPtrI32::try_emplace_invalid::<BoxedError>(place).is_err());
 }
 
+/// What rkyv stores in fields is what its parts answer.
+#[test]
+fn stored_offsets() {
+    let mut field = MaybeUninit::<RawRelPtrI32>::zeroed();
+    for at in [0, 1, 96, 1 << 31, 1 << 62] {
+        // SAFETY: as above.
+        let place = unsafe { Place::new_unchecked(at, field.as_mut_ptr()) };
+        let stored =
+            |place: &Place<RawRelPtrI32>| i32::from_le_bytes(place.as_slice().try_into().unwrap());
+        RawRelPtrI32::try_emplace_invalid::<BoxedError>(place).unwrap();
+        assert_eq!(rkyv_parts::absent(at as u64), Ok(stored(&place)));
+        for to in [0, 1, 96, 1 << 31, 1 << 62, 1 << 63] {
+            let answer = RawRelPtrI32::try_emplace::<BoxedError>(to, place);
+            let offset = rkyv_parts::offset(at as u64, to as u64);
+            assert_eq!(answer.is_ok(), offset.is_ok());
+            if let Ok(offset) = offset {
+                assert_eq!(offset, stored(&place));
+            }
+        }
+    }
+}
+
 #[test]
 fn case_3() {
-    let aligned = |position: usize, alignment: usize| {
-        let mut output = vec![0xff; position];
-        let next = WriterExt::<BoxedError>::align(&mut output, alignment).unwrap();
-        assert!(output[position..].iter().all(|byte| *byte == 0));
-        (next, output.len() - position)
+    assert_eq!(rkyv_parts::aligned(5, 8), (8, 3));
+    assert_eq!(rkyv_parts::aligned(8, 8), (8, 0));
+    assert_eq!(rkyv_parts::aligned(1, 32), (32, 31));
+    for (position, alignment) in [(5, 8), (u64::MAX - 31, 32), (u64::MAX, 1)] {
+        assert!(model::aligns(position, alignment));
+    }
+    for (position, alignment) in [(1, 64), (0, 64), (0, 0), (0, 3), (u64::MAX, 2)] {
+        assert!(!model::aligns(position, alignment));
+    }
+}
+
+/// Case *9, and each field past its end.
+#[test]
+fn case_9() {
+    let key = |examination, eye, presentation| {
+        model::pack(&KeyFields {
+            examination,
+            eye,
+            x: -3,
+            y: 3,
+            presentation,
+        })
     };
-    assert_eq!(aligned(5, 8), (8, 3));
-    assert_eq!(aligned(8, 8), (8, 0));
-    assert_eq!(aligned(1, 32), (32, 31));
+    assert_eq!(key(1, 0, 2), Ok(1_642_850_156_546));
+    assert_eq!(key(1 << 24, 0, 2), Err(18));
+    assert_eq!(key(1, 2, 2), Err(18));
+    assert_eq!(key(1, 0, 1 << 23), Err(18));
+    let back = model::unpack(1_642_850_156_546);
+    let fields = (
+        back.examination,
+        back.eye,
+        back.x,
+        back.y,
+        back.presentation,
+    );
+    assert_eq!(fields, (1, 0, -3, 3, 2));
 }
 
 /// rkyv runs on to the last entry where bounds cross; document 01 gives nothing.

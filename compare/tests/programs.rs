@@ -36,9 +36,9 @@ fn built_archives() {
     assert_eq!(first.split_whitespace().last(), Some("480"), "{text}");
 }
 
-/// The replay is small, ends as it should, and has every kind of line.
+/// The sample for the gate is small, ends as it should, and has every refusal and every kind of line.
 #[test]
-fn replay() {
+fn sample() {
     let folder = env::temp_dir().join(format!("compare-{}", std::process::id()));
     fs::create_dir_all(&folder).unwrap();
     let (input, expected) = (folder.join("input"), folder.join("expected"));
@@ -49,23 +49,52 @@ fn replay() {
     fs::remove_dir_all(&folder).unwrap();
 
     assert!(bytes.len() < 400_000);
-    assert!(bytes.ends_with(&[0xff; 4]));
+    assert!(bytes.ends_with(&[0]));
     let has = |line: &str| text.lines().any(|found| found == line);
-    for number in 2..=7 {
-        for call in ["check", "certify", "lookup", "range"] {
-            assert!(has(&format!("{call} refused {number}")), "{call} {number}");
+    let refusals: [(&[&str], &[u8]); 7] = [
+        (&["too long"], &[1]),
+        (
+            &["check", "certify", "walk", "lookup", "range", "column"],
+            &[2, 3, 4, 5, 6, 7],
+        ),
+        (&["certify", "range", "column"], &[8, 9]),
+        (&["build"], &[10, 11, 12, 13, 14]),
+        (&["distance", "offset", "absent"], &[15]),
+        (&["offset"], &[16]),
+        (&["align"], &[17]),
+    ];
+    for (calls, numbers) in refusals {
+        for call in calls {
+            for number in numbers {
+                assert!(has(&format!("{call} refused {number}")), "{call} {number}");
+            }
         }
     }
-    for number in 8..=9 {
-        for call in ["certify", "range"] {
-            assert!(has(&format!("{call} refused {number}")), "{call} {number}");
-        }
-    }
+    // Cases *1 to *3, *6 and *9 among others; sizes and parts that document 01 gives.
     for line in [
         "walk 64 of 76",
         "range 64 of 76",
         "lookup none",
         "lookup 7 9 48",
+        "bytes 8 9",
+        "bytes 0",
+        "pack refused 18",
+        "column refused 18",
+        "pack 1642850156546",
+        "unpack 1 0 -3 3 2",
+        "distance -9223372036854775808",
+        "offset 2147483647",
+        "absent 1",
+        "align 8 3",
+        "align 8 0",
+        "align 32 31",
+        "build 8",
+        "build 104",
+        "build 216",
+        "build 808",
+        "build 696",
+        "build 16",
+        "build 112",
     ] {
         assert!(has(line), "{line}");
     }
@@ -91,4 +120,19 @@ fn examples() {
     }
     fs::remove_dir_all(&folder).unwrap();
     assert_eq!(number, 22);
+}
+
+/// The stored sample is what `answers` writes today.
+#[test]
+fn stored_sample() {
+    let folder = env::temp_dir().join(format!("compare-stored-{}", std::process::id()));
+    fs::create_dir_all(&folder).unwrap();
+    let (input, expected) = (folder.join("input"), folder.join("expected"));
+    let files = [input.to_str().unwrap(), expected.to_str().unwrap()];
+    assert!(run(env!("CARGO_BIN_EXE_answers"), &files).status.success());
+    let program = Path::new(env!("CARGO_MANIFEST_DIR")).join("../crates/cases");
+    let same = fs::read(&input).unwrap() == fs::read(program.join("stdin")).unwrap()
+        && fs::read(&expected).unwrap() == fs::read(program.join("stdout")).unwrap();
+    fs::remove_dir_all(&folder).unwrap();
+    assert!(same, "write crates/cases/stdin and stdout anew");
 }

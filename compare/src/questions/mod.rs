@@ -1,0 +1,24 @@
+//! The sample that the program `cases` replays: questions to the proved calls, as bytes of its input, and the lines that it must print.
+
+pub mod archives;
+pub mod builds;
+pub mod parts;
+
+/// A question's bytes, its kind first, and the lines of its answer.
+pub struct Question {
+    pub bytes: Vec<u8>,
+    pub lines: Vec<String>,
+}
+
+/// A list's length, as the input has it.
+fn length(length: usize) -> [u8; 4] {
+    u32::try_from(length).expect("a short list").to_le_bytes()
+}
+
+/// A line that begins with the call's name and has its answer, or the refusal.
+fn line<T>(call: &str, answer: Result<T, u8>, text: impl FnOnce(T) -> String) -> String {
+    match answer {
+        Ok(answer) => format!("{call} {}", text(answer)),
+        Err(number) => format!("{call} refused {number}"),
+    }
+}

@@ -1,0 +1,137 @@
+//! Questions to the parts and to key packing. rkyv answers the parts; document 01 answers 17, which is ours alone, and key packing.
+
+use super::{line, Question};
+use crate::model::{self, KeyFields};
+use crate::rkyv_parts;
+use crate::trees::Random;
+
+/// Random questions of each kind, after those that document 01 speaks of.
+const RANDOM: usize = 24;
+
+/// Document 01's: cases *1 to *3 and *9, an absent mark at the largest position, alignments 32, 64 and 0, a padded position past the largest,
+/// each field of a key at and past its end; and random ones.
+pub fn all() -> Vec<Question> {
+    let random = &mut Random::new(1);
+    let (half, most) = (1 << 63, u64::MAX);
+    let mut questions = Vec::new();
+
+    let mut pairs = vec![(half, 0), (0, half), (0, (1 << 31) - 1), (0, 1 << 31)];
+    pairs.extend([(1 << 31, 0), ((1 << 31) + 1, 0), (most, 0), (0, most)]);
+    pairs.extend([(0, 0), (most, most), (192, 8), (208, 96), (half + 1, 0)]);
+    pairs.extend((0..RANDOM).map(|_| (position(random), position(random))));
+    questions.extend(pairs.iter().map(|&(from, to)| distance(from, to)));
+    questions.extend(pairs.iter().map(|&(from, to)| offset(from, to)));
+
+    let mut positions = vec![0, 1, 1 << 31, half - 1, half, most - 1, most];
+    positions.extend((0..RANDOM).map(|_| position(random)));
+    questions.extend(positions.iter().map(|&at| absent(at)));
+
+    let mut steps = vec![(5, 8), (8, 8), (1, 32), (0, 64), (1, 64), (0, 0), (7, 0)];
+    steps.extend([(most, 1), (most, 2), (most - 31, 32), (most - 30, 32)]);
+    steps.extend([(3, 3), (0, 12), (0, most), (0, half)]);
+    let alignments = [1, 2, 4, 8, 16, 32];
+    steps.extend((0..RANDOM).map(|_| (position(random), random.pick(&alignments))));
+    questions.extend(steps.iter().map(|&(position, by)| align(position, by)));
+
+    let mut keys = vec![key(1, 0, -3, 3, 2)];
+    let (examinations, presentations) = (1 << 24, 1 << 23);
+    keys.extend([
+        key(examinations - 1, 1, -1, -1, presentations - 1),
+        key(0, 0, i8::MIN, i8::MAX, 0),
+        key(examinations, 0, 0, 0, 0),
+        key(u32::MAX, 0, 0, 0, 0),
+        key(0, 2, 0, 0, 0),
+        key(0, u8::MAX, 0, 0, 0),
+        key(0, 0, 0, 0, presentations),
+        key(0, 0, 0, 0, u32::MAX),
+        key(examinations, 2, -128, 127, presentations),
+    ]);
+    keys.extend((0..RANDOM).map(|_| {
+        let bits = random.number();
+        let [x, y] = [bits as i8, (bits >> 8) as i8];
+        let (examination, presentation) = ((bits >> 40) as u32, (bits >> 20) as u32);
+        key(examination, x as u8 % 2, x, y, presentation % presentations)
+    }));
+    questions.extend(keys.iter().map(pack));
+    let mut packed: Vec<u64> = keys.iter().flat_map(model::pack).collect();
+    packed.extend([0, 1, half, most, random.number()]);
+    questions.extend(packed.iter().map(|&key| unpack(key)));
+    questions
+}
+
+fn key(examination: u32, eye: u8, x: i8, y: i8, presentation: u32) -> KeyFields {
+    KeyFields {
+        examination,
+        eye,
+        x,
+        y,
+        presentation,
+    }
+}
+
+/// A position of any size: small ones, near a power of two, and large ones.
+fn position(random: &mut Random) -> u64 {
+    let shift = random.below(64);
+    let any = random.number() >> shift;
+    random.pick(&[any, any | 1 << 31, any | 1 << 63])
+}
+
+/// A question of this kind about these numbers.
+fn about(kind: u8, numbers: &[u64], line: String) -> Question {
+    let mut bytes = vec![kind];
+    bytes.extend(numbers.iter().flat_map(|number| number.to_le_bytes()));
+    let lines = vec![line];
+    Question { bytes, lines }
+}
+
+fn distance(from: u64, to: u64) -> Question {
+    let answer = rkyv_parts::distance(from, to);
+    let text = line("distance", answer, |distance| distance.to_string());
+    about(3, &[from, to], text)
+}
+
+fn offset(from: u64, to: u64) -> Question {
+    let answer = rkyv_parts::offset(from, to);
+    let text = line("offset", answer, |offset| offset.to_string());
+    about(4, &[from, to], text)
+}
+
+fn absent(at: u64) -> Question {
+    let answer = rkyv_parts::absent(at);
+    let text = line("absent", answer, |offset| offset.to_string());
+    about(5, &[at], text)
+}
+
+fn align(position: u64, alignment: u64) -> Question {
+    let answer = match model::aligns(position, alignment) {
+        true => Ok(rkyv_parts::aligned(position, alignment)),
+        false => Err(17),
+    };
+    let text = line("align", answer, |(next, zeros)| format!("{next} {zeros}"));
+    about(6, &[position, alignment], text)
+}
+
+fn pack(fields: &KeyFields) -> Question {
+    let mut question = about(
+        7,
+        &[],
+        line("pack", model::pack(fields), |key| key.to_string()),
+    );
+    question.bytes.extend(fields.examination.to_le_bytes());
+    let narrow = [fields.eye, fields.x as u8, fields.y as u8];
+    question.bytes.extend(narrow);
+    question.bytes.extend(fields.presentation.to_le_bytes());
+    question
+}
+
+fn unpack(key: u64) -> Question {
+    let KeyFields {
+        examination,
+        eye,
+        x,
+        y,
+        presentation,
+    } = model::unpack(key);
+    let text = format!("unpack {examination} {eye} {x} {y} {presentation}");
+    about(8, &[key], text)
+}

@@ -1,0 +1,26 @@
+-- `cases::archives::check_longest` is safe and ends. Assumes nothing.
+use mathlib.Core.Path.{sym}
+use native.Mathlib.Omega.{arith}
+use lib.Seq.{length-take-le}
+use borrow.Author.Needs.{needs}
+use Rattle.cases.proofs.archives.check_longest.Statement.{statement}
+use Rattle.cases.proofs.archives.check_longest.Tie as tie
+
+slice-aggregate-check : tie.Need-slice-aggregate-check
+slice-aggregate-check c = sym (length-take-le 1048576 (c .before .before .before .before .before .before .before .before .before .args .bytes .now) (omega arith))
+
+pub check-longest-spec : {M : Type 1} → statement M
+check-longest-spec =
+    tie.close
+    (tie.spec
+    (search needs)
+    (search needs)
+    (search needs)
+    (search needs)
+    (search needs)
+    (search needs)
+    slice-aggregate-check
+    (search needs)
+    (search needs)
+    (search needs)
+    (search needs))

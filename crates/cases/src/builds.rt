@@ -1,0 +1,75 @@
+// Questions to the builder.
+use crate::checksum::checksum;
+use crate::input::next_list;
+use crate::input::next_u32;
+use crate::input::next_u64;
+use crate::output::print;
+use crate::output::print_checked;
+use crate::output::print_line;
+use crate::output::print_refused;
+use builder::build::BuildAnswer;
+use format::CheckAnswer;
+ghost use mathlib.Core.Path.{_≡_};
+ghost use lib.ListN.{length, replicate};
+
+// What an output holds before a build. It has a byte more than the longest archive.
+pub fn blank() -> [u8; 1048577]
+    ensures long { λ r. ⌜ 1048577 ≡ length r ⌝ }
+    ensures bytes { λ r. ⌜ r ≡ replicate 1048577 165 ⌝ }
+{
+    [165; 1048577]
+}
+
+// Room for two entries more than the builder takes.
+fn room() -> [u64; 40002]
+    ensures long { λ r. ⌜ 40002 ≡ length r ⌝ }
+    ensures numbers { λ r. ⌜ r ≡ replicate 40002 0 ⌝ }
+{
+    [0; 40002]
+}
+
+fn print_certified(archive: &[u8]) {
+    print(b"certify ");
+    print_checked(fieldmap::certify(archive));
+}
+
+// The answer, what certify says of the archive, and the checksum of the whole output.
+fn build(out: &mut [u8], header: usize, keys: &[u64], values: &[u64]) {
+    print(b"build ");
+    match fieldmap::build(out, header, keys, values) {
+        BuildAnswer::Refused(why) => print_refused(why),
+        BuildAnswer::Built(end) => {
+            print_line(end as u64);
+            if end <= out.len() {
+                print_certified(&out[..end]);
+            }
+        }
+    }
+    print(b"checksum ");
+    print_line(checksum(out));
+}
+
+// Fills two lists with the next ones, and builds of their fronts in the front of the output.
+fn build_next(out: &mut [u8], keys: &mut [u64], values: &mut [u64]) {
+    let header = next_u64() as usize;
+    let length = next_u32() as usize;
+    let n = next_list(keys);
+    let m = next_list(values);
+    if out.len() < length {
+        return;
+    }
+    if keys.len() < n {
+        return;
+    }
+    if values.len() < m {
+        return;
+    }
+    build(&mut out[..length], header, &keys[..n], &values[..m]);
+}
+
+pub fn replay_build() {
+    let mut out = blank();
+    let mut keys = room();
+    let mut values = room();
+    build_next(&mut out, &mut keys, &mut values);
+}
