@@ -7,6 +7,7 @@ pub mod model;
 #[cfg(feature = "ours")]
 pub mod ours;
 pub mod questions;
+pub mod readers;
 pub mod rkyv_map;
 pub mod rkyv_parts;
 pub mod trees;

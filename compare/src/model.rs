@@ -7,7 +7,7 @@
 use std::ops::Bound;
 
 /// Refusal 1: "N is above 1,048,576."
-const LONGEST: usize = 1_048_576;
+pub const LONGEST: usize = 1_048_576;
 /// Refusals 11 and 13: "More than 40,000 entries are given." "The header is longer than 4,096 bytes."
 pub const MOST_GIVEN: usize = 40_000;
 pub const LONGEST_HEADER: u64 = 4_096;
@@ -75,9 +75,14 @@ fn recorded(bytes: &[u8]) -> u32 {
     u32_at(bytes, bytes.len() - RECORD + 4)
 }
 
+/// Refusal 1.
+pub fn too_long(bytes: &[u8]) -> bool {
+    bytes.len() > LONGEST
+}
+
 /// The check, 1 to 7, and the recorded count.
 pub fn check(bytes: &[u8]) -> Result<u32, u8> {
-    if bytes.len() > LONGEST {
+    if too_long(bytes) {
         return Err(1);
     }
     if bytes.len() < RECORD {

@@ -60,6 +60,9 @@ extern "C" {
     ) -> u64;
 }
 
+/// What a lent place holds before a call.
+const UNTOUCHED: u64 = 0x5555_5555_5555_5555;
+
 fn answer(code: u64) -> Result<u32, u8> {
     u32::try_from(code).map_err(|_| (code - (1 << 32)) as u8)
 }
@@ -100,13 +103,18 @@ pub fn walk(archive: &[u8], keys: &mut [u64], values: &mut [u64]) -> Result<u32,
     })
 }
 
+/// Whether there is an entry with a key, whose value then is in its place, or the refusal.
+pub fn lookup_into(archive: &[u8], key: u64, value: &mut u64) -> Result<bool, u8> {
+    // SAFETY: as above; the value's place is a reference's.
+    let found = answer(unsafe { fieldmap_lookup(archive.as_ptr(), archive.len(), key, value) })?;
+    Ok(found == 1)
+}
+
 /// The value of a key, nothing, or the refusal.
 pub fn lookup(archive: &[u8], key: u64) -> Result<Option<u64>, u8> {
     let mut value = 0;
-    // SAFETY: as above; the value's place is a local.
-    let found =
-        answer(unsafe { fieldmap_lookup(archive.as_ptr(), archive.len(), key, &mut value) })?;
-    Ok((found == 1).then_some(value))
+    let found = lookup_into(archive, key, &mut value)?;
+    Ok(found.then_some(value))
 }
 
 /// The number of keys found after one check, their values each in its place, or the refusal.
@@ -133,7 +141,7 @@ pub fn range(
     values: &mut [u64],
 ) -> Result<(u32, u64), u8> {
     let ((lower_kind, lower), (upper_kind, upper)) = (passed(lower), passed(upper));
-    let mut matching = 0;
+    let mut matching = UNTOUCHED;
     // SAFETY: as above; the number's place is a local.
     let written = answer(unsafe {
         fieldmap_range(
@@ -149,8 +157,11 @@ pub fn range(
             values.len(),
             &mut matching,
         )
-    })?;
-    Ok((written, matching))
+    });
+    if written.is_err() {
+        assert_eq!(matching, UNTOUCHED, "a refused call leaves what was lent");
+    }
+    Ok((written?, matching))
 }
 
 /// The archive's end in the output, behind a header of so many bytes that stay, or the refusal.

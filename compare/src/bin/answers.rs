@@ -49,9 +49,12 @@ fn main() -> ExitCode {
 fn write(input: &str, expected: &str) -> io::Result<()> {
     let (archives, counts) = archives::all();
     let (builds, parts) = (builds::all(), parts::all());
-    print!("{counts}");
-    println!("builds         {:9}", builds.len());
-    println!("parts and keys {:9}", parts.len());
+    let (number, certified) = counts.all();
+    println!("archives                            {number:9}");
+    println!("certified                           {certified:9}");
+    counts.print(2..=9);
+    println!("builds                              {:9}", builds.len());
+    println!("parts and keys                      {:9}", parts.len());
 
     let mut bytes = Vec::new();
     let mut lines = archives::longest();
@@ -62,7 +65,7 @@ fn write(input: &str, expected: &str) -> io::Result<()> {
     bytes.push(0);
     fs::write(input, &bytes)?;
     fs::write(expected, lines.join("\n") + "\n")?;
-    println!("bytes of input {:9}", bytes.len());
-    println!("lines of text  {:9}", lines.len());
+    println!("bytes of input                      {:9}", bytes.len());
+    println!("lines of text                       {:9}", lines.len());
     Ok(())
 }

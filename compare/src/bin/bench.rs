@@ -1,9 +1,19 @@
 //! Times rkyv's calls and, with the feature `ours`, those of the proved code: one process, one run, warm buffers, the best of many
-//! repetitions.
+//! repetitions. Without the feature the lines have rkyv's time only.
 //!
-//! A proved reader runs the check first, so it stands beside rkyv's check and rkyv's reader together; the reader alone is in a line of its
-//! own. The proved range certifies, and rkyv has no such call: there rkyv's check and range stand beside more work. The proved build
-//! compares the keys with one another, which rkyv leaves to its caller. Where the library exports no call, the line has rkyv's time only.
+//! Both sides give the same answer in every line but one, and do this for it:
+//!
+//! - `check`: each runs its check.
+//! - `certify`: the proved call checks, looks for hollow nodes and compares each key with the one before. rkyv has no such call. What a caller
+//!   in Rust has to do for the same answer is rkyv's check and a pass over all entries by `visit` that compares the keys; it does not see
+//!   hollow nodes.
+//! - `check and walk`: each checks and writes all keys and values to two lists.
+//! - `check and 1,000 lookups`: each checks once and looks up 1,000 keys, of which three quarters are there.
+//! - `certify and range of 100`: the proved range certifies and writes the 100 entries in the middle, or all of them where there are fewer.
+//!   rkyv checks, compares all keys as under `certify`, and writes what its range iterator gives.
+//! - `the same, rkyv not certifying`: the proved range again, beside rkyv's check and range without a look at the order of the keys.
+//! - `build`: the proved build makes sure that the keys ascend, rkyv leaves that to its caller. Both write to memory that they have already,
+//!   behind no header; rkyv also uses working memory, kept from call to call.
 
 use std::hint::black_box;
 use std::ops::{Bound, ControlFlow};
@@ -46,7 +56,8 @@ macro_rules! proved {
     };
 }
 
-/// The side of a measurement that has no call.
+/// The side of a measurement that is not linked.
+#[cfg(not(feature = "ours"))]
 const NOT_THERE: Option<fn(&mut Lent) -> usize> = None;
 
 fn main() {
@@ -58,17 +69,17 @@ fn main() {
 
 fn measure(entries: usize) {
     let (keys, values) = examination(entries as u64);
-    let archive = Archive::copy(&rkyv_map::build(&[], &keys, &values));
-    let map = accepted(&archive).map();
+    let archive = &Archive::copy(&rkyv_map::build(&[], &keys, &values));
     let random = &mut Random::new(0);
     // Of four keys that are looked up, three are there.
     let sought: Vec<u64> = (0..LOOKUPS)
         .map(|_| random.pick(&keys) + u64::from(random.one_in(4)))
         .collect();
-    let first = (entries - entries.min(RANGE)) / 2;
+    let count = entries.min(RANGE);
+    let first = (entries - count) / 2;
     let bounds = (
         Bound::Included(keys[first]),
-        Bound::Included(keys[first + entries.min(RANGE) - 1]),
+        Bound::Included(keys[first + count - 1]),
     );
 
     let row = |call: &str, (ours, rkyv): (Option<f64>, f64)| {
@@ -79,9 +90,17 @@ fn measure(entries: usize) {
     row(
         "check",
         best(
-            entries,
+            0,
             proved!(|_: &mut Lent| ours::check(black_box(archive.bytes())).unwrap() as usize),
-            |_| accepted(&archive).count() as usize,
+            |_| accepted(archive).count() as usize,
+        ),
+    );
+    row(
+        "certify",
+        best(
+            0,
+            proved!(|_: &mut Lent| ours::certify(black_box(archive.bytes())).unwrap() as usize),
+            |_| certified(archive).count() as usize,
         ),
     );
     row(
@@ -92,22 +111,7 @@ fn measure(entries: usize) {
                 let bytes = black_box(archive.bytes());
                 ours::walk(bytes, &mut lent.keys, &mut lent.values).unwrap() as usize
             }),
-            |lent| visit(accepted(&archive).map(), lent),
-        ),
-    );
-    row(
-        "walk alone",
-        best(entries, NOT_THERE, |lent| visit(black_box(map), lent)),
-    );
-    row(
-        "check and one lookup",
-        best(
-            entries,
-            proved!(|_: &mut Lent| {
-                let bytes = black_box(archive.bytes());
-                usize::from(ours::lookup(bytes, sought[0]).unwrap().is_some())
-            }),
-            |lent| look_up(accepted(&archive).map(), &sought[..1], lent),
+            |lent| visit(accepted(archive).map(), lent),
         ),
     );
     row(
@@ -118,33 +122,20 @@ fn measure(entries: usize) {
                 let bytes = black_box(archive.bytes());
                 ours::lookup_many(bytes, &sought, &mut lent.values).unwrap() as usize
             }),
-            |lent| look_up(accepted(&archive).map(), &sought, lent),
+            |lent| look_up(accepted(archive).map(), &sought, lent),
         ),
     );
     row(
-        "1,000 lookups alone",
-        best(LOOKUPS, NOT_THERE, |lent| {
-            look_up(black_box(map), &sought, lent)
+        &format!("certify and range of {count}"),
+        best(RANGE, proved!(ranging(archive, bounds)), |lent| {
+            range(certified(archive).map(), bounds, lent)
         }),
     );
     row(
-        "certify (rkyv: check) and range",
-        best(
-            RANGE,
-            proved!(|lent: &mut Lent| {
-                let bytes = black_box(archive.bytes());
-                let (lower, upper) = bounds;
-                let (written, matching) =
-                    ours::range(bytes, lower, upper, &mut lent.keys, &mut lent.values).unwrap();
-                assert_eq!(u64::from(written), matching);
-                written as usize
-            }),
-            |lent| range(accepted(&archive).map(), bounds, lent),
-        ),
-    );
-    row(
-        &format!("range of {} entries alone", entries.min(RANGE)),
-        best(RANGE, NOT_THERE, |lent| range(black_box(map), bounds, lent)),
+        "the same, rkyv not certifying",
+        best(RANGE, proved!(ranging(archive, bounds)), |lent| {
+            range(accepted(archive).map(), bounds, lent)
+        }),
     );
     let (mut output, mut arena) = (AlignedVec::new(), Arena::new());
     row(
@@ -161,6 +152,21 @@ fn measure(entries: usize) {
     );
 }
 
+/// The proved range.
+#[cfg(feature = "ours")]
+fn ranging(
+    archive: &Archive,
+    (lower, upper): (Bound<u64>, Bound<u64>),
+) -> impl FnMut(&mut Lent) -> usize + use<'_> {
+    move |lent| {
+        let bytes = black_box(archive.bytes());
+        let (written, matching) =
+            ours::range(bytes, lower, upper, &mut lent.keys, &mut lent.values).unwrap();
+        assert_eq!(u64::from(written), matching);
+        written as usize
+    }
+}
+
 /// The proved build, into an output that is as long as rkyv's archive, with the same bytes.
 #[cfg(feature = "ours")]
 fn building<'a>(
@@ -174,11 +180,33 @@ fn building<'a>(
     move |_| ours::build(&mut output, 0, black_box(keys), values).unwrap() as usize
 }
 
-/// rkyv's check, as a caller has it in a release build. It and the three readers below are functions of their own, as the proved calls
-/// are, so that they are the same code in every line of the table.
+/// rkyv's check, as a caller has it in a release build. It and the functions below are functions of their own, as the proved calls are, so
+/// that they are the same code in every line of the table.
 #[inline(never)]
 fn accepted(archive: &Archive) -> Accepted<'_> {
     black_box(archive).validate::<Error>().unwrap()
+}
+
+/// rkyv's check, and each key compared with the one before.
+#[inline(never)]
+fn certified(archive: &Archive) -> Accepted<'_> {
+    let accepted = accepted(archive);
+    assert!(ascending(accepted.map()), "keys that ascend");
+    accepted
+}
+
+#[inline(never)]
+fn ascending(map: &Map) -> bool {
+    let mut before = None;
+    let fault = map.visit(|key, _| {
+        let key = key.to_native();
+        if before.is_some_and(|before| key <= before) {
+            return ControlFlow::Break(());
+        }
+        before = Some(key);
+        ControlFlow::Continue(())
+    });
+    fault.is_none()
 }
 
 #[inline(never)]

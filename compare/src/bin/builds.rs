@@ -1,70 +1,73 @@
-//! Compares what the proved code builds with what rkyv builds, byte for byte: every number of entries up to a limit and four larger ones,
-//! each behind headers of every length in `headers`.
+//! Compares what the proved code builds with what rkyv builds, byte for byte: every number of entries up to a limit, four larger ones where the
+//! tree grows or the builder ends, and random ones up to 40,000, each behind headers of every length in `headers`.
 //!
-//! `builds [LIMIT]` takes the numbers from 0 to the limit, 2,000 if none is given. The output holds bytes other than 0 before each call;
-//! those of the header and those past the archive must stay, and check and certify must accept the archive with the number of entries.
-//! Refused calls must leave the output as it was; there document 01 is the reference, since rkyv takes every list. Prints how many archives
-//! and how many refused calls there were. If some differ, it prints the first of them and ends with 1.
+//! `builds [LIMIT [SEED]]` takes the numbers from 0 to the limit, 2,000 if none is given. The output holds bytes other than 0 before each call;
+//! those of the header and those past the archive must stay, and check and certify must accept the archive with the number of entries. Once
+//! for each list the readers' answers about the archive are compared too. Refused calls must leave the output as it was; there document 01 is
+//! the reference, since rkyv takes every list. Prints how many archives and how many refused calls there were. If some differ, it prints the
+//! first of them and ends with 1. With a limit of 2,000 or more it also ends with 1 if one of the refusals 10 to 14 comes up less than 100
+//! times.
 
 use std::env;
 use std::fmt::Debug;
 use std::process::ExitCode;
 
+use compare::counts::{Counts, LeftOut, LEAST};
+use compare::model::{LONGEST, LONGEST_HEADER, MOST_GIVEN as MOST};
 use compare::ours;
-use compare::rkyv_map;
+use compare::readers;
+use compare::rkyv_map::{self, Archive};
 use compare::trees::Random;
 use rkyv::ser::allocator::Arena;
 use rkyv::util::AlignedVec;
 
 /// The numbers of entries beyond the limit: where the tree gets its sixth level, and the most that the builder takes.
 const LARGER: [usize; 4] = [7_775, 7_776, 39_999, 40_000];
-/// The longest header, and the most entries.
-const LONGEST_HEADER: usize = 4_096;
-const MOST: usize = 40_000;
-/// The most bytes that an output has past the archive, and more than any output here has in all.
+/// With this limit or a larger one, the run takes so many random numbers of entries as well, and must have each refusal often enough.
+const LONG: usize = 2_000;
+const RANDOM: usize = 100;
+/// The longest header.
+const HEADER: usize = LONGEST_HEADER as usize;
+/// The most bytes that an output has past the archive.
 const PAST: usize = 40;
-const LONGEST: usize = 1 << 20;
 /// Bytes that are more than enough for an archive behind its header: these, and these for each entry.
 const ROOM_FOR_NONE: usize = 200;
 const ROOM_FOR_EACH: usize = 24;
 
 fn main() -> ExitCode {
-    let limit = env::args().nth(1).map_or(2_000, |text| {
+    let mut arguments = env::args().skip(1);
+    let limit = arguments.next().map_or(LONG, |text| {
         text.parse().expect("the largest number of entries")
     });
+    let seed = arguments
+        .next()
+        .map_or(0, |text| text.parse().expect("a seed"));
+    println!("seed {seed}");
 
-    let mut run = Run::new();
+    let mut run = Run::new(seed);
     for number in (0..=limit).chain(LARGER) {
-        let (keys, values) = entries(number, &mut run.random);
-        for header in headers() {
-            run.archive(header, &keys, &values);
-        }
-        run.refusals(&keys, &values);
+        run.number(number);
     }
-    run.too_many();
-
-    let Run {
-        archives, refused, ..
-    } = &run;
-    println!("archives compared {:9}", archives.number);
-    println!("differing         {:9}", archives.differing);
-    println!("refused calls     {:9}", refused.number);
-    println!("differing         {:9}", refused.differing);
-    match run.first {
-        None => ExitCode::SUCCESS,
-        Some(difference) => {
-            println!("{difference}");
-            ExitCode::FAILURE
+    if limit >= LONG {
+        for _ in 0..RANDOM {
+            let number = LONG + run.random.below(MOST - LONG);
+            run.number(number);
         }
     }
+    for number in 1..=25 {
+        run.too_many(MOST + number);
+    }
+    run.too_many(3 * MOST);
+    run.finish(limit)
 }
 
 /// The lengths of the headers: each place in 8 bytes, twice over, and the longest.
 fn headers() -> impl Iterator<Item = usize> {
-    (0..=17).chain([LONGEST_HEADER - 1, LONGEST_HEADER])
+    (0..=17).chain([HEADER - 1, HEADER])
 }
 
-/// As many ascending keys and values: gaps of any size, and in every other list the largest key.
+/// As many ascending keys and values: gaps of any size, in every other list the largest key and in every third the smallest; of eight values
+/// one is the smallest and one the largest.
 fn entries(number: usize, random: &mut Random) -> (Vec<u64>, Vec<u64>) {
     let widest = u64::MAX / (number as u64 + 1);
     let mut below = 0;
@@ -80,7 +83,17 @@ fn entries(number: usize, random: &mut Random) -> (Vec<u64>, Vec<u64>) {
             *last = u64::MAX;
         }
     }
-    let values = (0..number).map(|_| random.number()).collect();
+    if number.is_multiple_of(3) {
+        if let Some(first) = keys.first_mut().filter(|_| number > 1) {
+            *first = 0;
+        }
+    }
+    let mut value = || match random.below(8) {
+        0 => 0,
+        1 => u64::MAX,
+        _ => random.number(),
+    };
+    let values = (0..number).map(|_| value()).collect();
     (keys, values)
 }
 
@@ -101,14 +114,18 @@ struct Run {
     rkyv: AlignedVec<8>,
     arena: Arena,
     archives: Count,
+    read: Count,
     refused: Count,
+    /// The refused calls by number.
+    numbers: Counts,
+    left_out: LeftOut,
     /// The first difference.
     first: Option<String>,
 }
 
 impl Run {
-    fn new() -> Self {
-        let mut random = Random::new(0);
+    fn new(seed: u64) -> Self {
+        let mut random = Random::new(seed);
         let before = (0..LONGEST).map(|_| 1 + random.below(255) as u8).collect();
         Self {
             random,
@@ -117,8 +134,33 @@ impl Run {
             rkyv: AlignedVec::new(),
             arena: Arena::new(),
             archives: Count::default(),
+            read: Count::default(),
             refused: Count::default(),
+            numbers: Counts::default(),
+            left_out: LeftOut::default(),
             first: None,
+        }
+    }
+
+    /// A list of so many entries: the archives behind every header, the readers' answers about the last, and calls that are refused.
+    fn number(&mut self, number: usize) {
+        let (keys, values) = entries(number, &mut self.random);
+        for header in headers() {
+            self.archive(header, &keys, &values);
+        }
+        self.read(number);
+        self.refusals(&keys, &values);
+    }
+
+    /// The readers' answers about the archive that was built last.
+    fn read(&mut self, number: usize) {
+        let archive = Archive::copy(&self.rkyv);
+        let difference = readers::compare(&archive, &mut self.random, &mut self.left_out);
+        self.read.number += 1;
+        if let Err(difference) = difference {
+            self.read.differing += 1;
+            let what = format!("{number} entries, read");
+            self.first.get_or_insert(format!("{what}: {difference}"));
         }
     }
 
@@ -154,9 +196,9 @@ impl Run {
     /// Calls that are refused, with lists like these, which are in order.
     fn refusals(&mut self, keys: &[u64], values: &[u64]) {
         let number = keys.len();
-        let header = self.random.below(LONGEST_HEADER + 1);
-        let long = LONGEST_HEADER + 1;
-        let room = LONGEST_HEADER + ROOM_FOR_NONE + ROOM_FOR_EACH * number;
+        let header = self.random.below(HEADER + 1);
+        let long = HEADER + 1;
+        let room = HEADER + ROOM_FOR_NONE + ROOM_FOR_EACH * number;
 
         // 10 comes before all others.
         let one_more = [values, &[0]].concat();
@@ -188,16 +230,15 @@ impl Run {
         self.refusal(14, header / 2, header, keys, values);
     }
 
-    /// Lists that are too long: 11 comes after 10 and before all others.
-    fn too_many(&mut self) {
-        for number in [MOST + 1, MOST + 2, 3 * MOST] {
-            let (mut keys, values) = entries(number, &mut self.random);
-            self.refusal(10, LONGEST, 0, &keys, &values[1..]);
-            self.refusal(11, LONGEST, 0, &keys, &values);
-            self.refusal(11, 0, LONGEST_HEADER + 1, &keys, &values);
-            keys.swap(0, number / 2);
-            self.refusal(11, LONGEST, 0, &keys, &values);
-        }
+    /// A list that is too long: 11 comes after 10 and before all others.
+    fn too_many(&mut self, number: usize) {
+        let (mut keys, values) = entries(number, &mut self.random);
+        self.refusal(10, LONGEST, 0, &keys, &values[1..]);
+        self.refusal(11, LONGEST, 0, &keys, &values);
+        self.refusal(11, 0, 0, &keys, &values);
+        self.refusal(11, 0, HEADER + 1, &keys, &values);
+        keys.swap(0, number / 2);
+        self.refusal(11, LONGEST, 0, &keys, &values);
     }
 
     /// A call with an output of this length, which must be refused with this number and leave the output as it was.
@@ -209,6 +250,7 @@ impl Run {
         let difference =
             same("answer", Err(number), answer).and_then(|()| same_bytes("output", before, output));
         self.refused.number += 1;
+        self.numbers.add(answer);
         if let Err(difference) = difference {
             self.refused.differing += 1;
             let (keys, values) = (keys.len(), values.len());
@@ -216,6 +258,35 @@ impl Run {
                 "{keys} keys and {values} values behind {header} bytes, in an output of {length}"
             );
             self.first.get_or_insert(format!("{what}: {difference}"));
+        }
+    }
+}
+
+impl Run {
+    /// Prints what there was, and what is wrong with it, if anything is.
+    fn finish(&self, limit: usize) -> ExitCode {
+        for (name, count) in [
+            ("archives compared", &self.archives),
+            ("archives read", &self.read),
+            ("refused calls", &self.refused),
+        ] {
+            println!("{name:20}                {:9}", count.number);
+            println!("differing                           {:9}", count.differing);
+        }
+        self.numbers.print(10..=14);
+        print!("{}", self.left_out);
+        println!("  {:35}{:9}", "refused builds", self.refused.number);
+        let rare = self.numbers.rare(10..=14);
+        let few = limit >= LONG && !rare.is_empty();
+        if few {
+            println!("less than {LEAST} times: {rare:?}");
+        }
+        if let Some(difference) = &self.first {
+            println!("{difference}");
+        }
+        match self.first.is_none() && !few {
+            true => ExitCode::SUCCESS,
+            false => ExitCode::FAILURE,
         }
     }
 }

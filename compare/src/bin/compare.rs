@@ -1,24 +1,40 @@
 //! Compares answers on generated archives: rkyv's with the model's, which is document 01's text, and, with the feature `ours`, the proved
 //! code's with both.
 //!
-//! `compare [NUMBER [FIRST]]` takes as many seeds from the first on. Prints how many archives there were of each kind. If answers differ, it
-//! prints the smallest archive on which they do, in hex, and ends with 1.
+//! `compare [NUMBER [FIRST]]` takes as many seeds from the first on. Prints the seeds, how many archives there were of each kind, and what
+//! was compared with the model only. If answers differ, it prints the smallest archive on which they do, in hex, and ends with 1. A run of a
+//! million archives or more also ends with 1 if one of the refusals 1 to 9 comes up less than 100 times.
 
 use std::env;
-use std::fmt::Debug;
-use std::ops::Bound;
 use std::process::ExitCode;
 
-use compare::counts::Counts;
-use compare::model::{self, Entry};
-use compare::rkyv_map::{Accepted, Archive};
+use compare::counts::{Counts, LeftOut, LEAST};
+use compare::model;
+use compare::readers;
+use compare::rkyv_map::Archive;
 use compare::trees::{self, Random};
 
-/// Keys and pairs of bounds asked of each archive.
-const QUESTIONS: usize = 8;
+/// A run of this many archives must have each refusal often enough.
+const LONG: u64 = 1_000_000;
 
-/// A lower and an upper bound.
-type Bounds = (Bound<u64>, Bound<u64>);
+/// The differences of a run.
+#[derive(Default)]
+struct Differences {
+    number: u64,
+    /// The smallest archive on which answers differ, and the first difference.
+    smallest: Option<(Archive, String)>,
+}
+
+impl Differences {
+    fn add(&mut self, archive: Archive, difference: String) {
+        self.number += 1;
+        let length = archive.bytes().len();
+        let smallest = self.smallest.as_ref();
+        if smallest.is_none_or(|(least, _)| length < least.bytes().len()) {
+            self.smallest = Some((archive, difference));
+        }
+    }
+}
 
 fn main() -> ExitCode {
     let mut arguments = env::args().skip(1).map(|text| text.parse::<u64>());
@@ -28,235 +44,48 @@ fn main() -> ExitCode {
     };
     let number = argument(100_000);
     let first = argument(0);
+    println!("seeds from {first}, {number} of them");
 
-    let mut counts = Counts::default();
-    let mut differing = 0;
-    let mut smallest: Option<(Archive, String)> = None;
+    let (mut counts, mut left_out) = (Counts::default(), LeftOut::default());
+    let mut differences = Differences::default();
     for seed in first..first + number {
         let archive = Archive::copy(&trees::archive(seed));
         counts.add(model::certify(archive.bytes()));
-        if let Err(difference) = compare(&archive, &mut Random::new(!seed)) {
-            differing += 1;
-            let length = archive.bytes().len();
-            if smallest
-                .as_ref()
-                .is_none_or(|(least, _)| length < least.bytes().len())
-            {
-                smallest = Some((archive, format!("seed {seed}: {difference}")));
-            }
+        let random = &mut Random::new(!seed);
+        if let Err(difference) = readers::compare(&archive, random, &mut left_out) {
+            differences.add(archive, format!("seed {seed}: {difference}"));
         }
     }
 
-    print!("{counts}");
-    println!("differing      {differing:9}");
-    let Some((archive, difference)) = smallest else {
-        return ExitCode::SUCCESS;
-    };
-    println!("{difference}");
-    for byte in archive.bytes() {
-        print!("{byte:02x}");
-    }
-    println!();
-    ExitCode::FAILURE
+    let (archives, certified) = counts.all();
+    println!("archives                            {archives:9}");
+    println!("accepted                            {:9}", left_out.certify);
+    println!("certified                           {certified:9}");
+    counts.print(1..=9);
+    print!("{left_out}");
+    println!(
+        "differing                           {:9}",
+        differences.number
+    );
+    finish(&differences, &counts, number)
 }
 
-/// The first difference in the answers about one archive.
-fn compare(archive: &Archive, random: &mut Random) -> Result<(), String> {
-    let bytes = archive.bytes();
-    let checked = archive.check();
-    let count = count(&checked);
-    same("check", ("rkyv", count), ("model", model::check(bytes)))?;
-
-    let entries = match &checked {
-        Ok(accepted) => accepted.visit(),
-        Err(_) => Vec::new(),
-    };
-    let keys: Vec<u64> = entries.iter().map(|entry| entry.0).collect();
-    let sought = trees::sought(&keys, QUESTIONS, random);
-    let ranges: Vec<Bounds> = (0..QUESTIONS)
-        .map(|_| trees::bounds(&keys, random))
-        .collect();
-    if let Ok(accepted) = &checked {
-        readers(bytes, accepted, &entries, &sought, &ranges)?;
+/// Prints what is wrong with the run, if anything is.
+fn finish(differences: &Differences, counts: &Counts, number: u64) -> ExitCode {
+    let rare = counts.rare(1..=9);
+    let few = number >= LONG && !rare.is_empty();
+    if few {
+        println!("less than {LEAST} times: {rare:?}");
     }
-    #[cfg(feature = "ours")]
-    {
-        proved::compare(bytes, &checked, &entries, &sought, random)?;
-        proved::compare_ranges(bytes, &checked, &ranges, random)?;
-    }
-    Ok(())
-}
-
-/// What rkyv's check answers, as a number.
-fn count(checked: &Result<Accepted, u8>) -> Result<u32, u8> {
-    match checked {
-        Ok(accepted) => Ok(accepted.count()),
-        Err(number) => Err(*number),
-    }
-}
-
-/// What rkyv reads of an accepted archive, and what document 01 says of it.
-fn readers(
-    bytes: &[u8],
-    accepted: &Accepted,
-    entries: &[(u64, u64)],
-    sought: &[u64],
-    ranges: &[Bounds],
-) -> Result<(), String> {
-    let list = model::list(bytes);
-    same("walk", ("rkyv", entries), ("model", &pairs(&list)))?;
-    if model::fault(bytes).is_some() {
-        return Ok(());
-    }
-    for &key in sought {
-        let entry = list.iter().find(|entry| entry.key == key);
-        let found = entry.map(|entry| (entry.key, entry.value, entry.position));
-        let what = format!("lookup of {key}");
-        same(&what, ("rkyv", accepted.get(key)), ("model", found))?;
-    }
-    for &(lower, upper) in ranges {
-        let range = pairs(&model::range(bytes, lower, upper));
-        let what = format!("range from {lower:?} to {upper:?}");
-        same(&what, matching(accepted, lower, upper), ("model", range))?;
-    }
-    Ok(())
-}
-
-/// The entries of a certified archive that meet both bounds, and whose answer they are.
-fn matching(
-    accepted: &Accepted,
-    lower: Bound<u64>,
-    upper: Bound<u64>,
-) -> (&'static str, Vec<(u64, u64)>) {
-    match model::crosses(lower, upper) {
-        true => ("document 01", Vec::new()),
-        false => ("rkyv", accepted.range(lower, upper)),
-    }
-}
-
-fn pairs(entries: &[Entry]) -> Vec<(u64, u64)> {
-    let pairs = entries.iter().map(|entry| (entry.key, entry.value));
-    pairs.collect()
-}
-
-/// A difference, unless the two give the same.
-fn same<T: Debug + PartialEq>(what: &str, one: (&str, T), other: (&str, T)) -> Result<(), String> {
-    if one.1 == other.1 {
-        return Ok(());
-    }
-    let (one, first) = one;
-    let (other, second) = other;
-    Err(format!("{what}: {one} {first:?}, {other} {second:?}"))
-}
-
-/// The proved code's answers against rkyv's, and against the model's where rkyv has none.
-#[cfg(feature = "ours")]
-mod proved {
-    use compare::rkyv_map::Accepted;
-    use compare::trees::Random;
-    use compare::{model, ours};
-
-    use super::{count, matching, same, Bounds};
-
-    /// What a place of a lent list holds before a call.
-    const BEFORE: u64 = 0x5555_5555_5555_5555;
-
-    pub fn compare(
-        bytes: &[u8],
-        checked: &Result<Accepted, u8>,
-        entries: &[(u64, u64)],
-        sought: &[u64],
-        random: &mut Random,
-    ) -> Result<(), String> {
-        let count = count(checked);
-        let certified = model::certify(bytes);
-        same("check", ("rkyv", count), ("ours", ours::check(bytes)))?;
-        same(
-            "certify",
-            ("model", certified),
-            ("ours", ours::certify(bytes)),
-        )?;
-
-        let (mut keys, mut values) = lent(entries, random);
-        let (written, after) = written(entries, &keys, &values);
-        let answer = ours::walk(bytes, &mut keys, &mut values);
-        same(
-            "walk",
-            ("rkyv", (count.map(|_| written), after)),
-            ("ours", (answer, (keys, values))),
-        )?;
-
-        let mut found = Vec::new();
-        for &key in sought {
-            let value = match checked {
-                Ok(accepted) => Ok(accepted.get(key).map(|found| found.1)),
-                Err(number) => Err(*number),
-            };
-            let what = format!("lookup of {key}");
-            same(&what, ("rkyv", value), ("ours", ours::lookup(bytes, key)))?;
-            found.push(value.ok().flatten());
+    if let Some((archive, difference)) = &differences.smallest {
+        println!("{difference}");
+        for byte in archive.bytes() {
+            print!("{byte:02x}");
         }
-
-        // The place of a key that is not there may hold anything.
-        let mut values = vec![BEFORE; sought.len()];
-        let number = count.map(|_| found.iter().flatten().count() as u32);
-        let answer = ours::lookup_many(bytes, sought, &mut values);
-        same("lookup of many", ("rkyv", number), ("ours", answer))?;
-        for ((key, value), after) in sought.iter().zip(found).zip(values) {
-            let what = format!("lookup of many, at {key}");
-            same(&what, ("rkyv", value.unwrap_or(after)), ("ours", after))?;
-        }
-        Ok(())
+        println!();
     }
-
-    /// The ranges of any archive: what certify refuses is refused with the same number, and nothing is written.
-    pub fn compare_ranges(
-        bytes: &[u8],
-        checked: &Result<Accepted, u8>,
-        ranges: &[Bounds],
-        random: &mut Random,
-    ) -> Result<(), String> {
-        let certified = model::certify(bytes);
-        for &(lower, upper) in ranges {
-            let (source, entries) = match (checked, certified) {
-                (Ok(accepted), Ok(_)) => matching(accepted, lower, upper),
-                _ => ("model", Vec::new()),
-            };
-            let (mut keys, mut values) = lent(&entries, random);
-            let (written, after) = written(&entries, &keys, &values);
-            let numbers = certified.map(|_| (written, entries.len() as u64));
-            let answer = ours::range(bytes, lower, upper, &mut keys, &mut values);
-            same(
-                &format!("range from {lower:?} to {upper:?}"),
-                (source, (numbers, after)),
-                ("ours", (answer, (keys, values))),
-            )?;
-        }
-        Ok(())
-    }
-
-    /// Two lent lists, of keys and of values, whose lengths differ as a rule.
-    fn lent(entries: &[(u64, u64)], random: &mut Random) -> (Vec<u64>, Vec<u64>) {
-        let mut list = || vec![BEFORE; room(entries, random)];
-        (list(), list())
-    }
-
-    /// The number of entries written to lent lists, and the lists after it: the shorter decides, and later places keep their content.
-    fn written(
-        entries: &[(u64, u64)],
-        keys: &[u64],
-        values: &[u64],
-    ) -> (u32, (Vec<u64>, Vec<u64>)) {
-        let written = entries.len().min(keys.len()).min(values.len());
-        let (mut keys, mut values) = (keys.to_vec(), values.to_vec());
-        for (index, &(key, value)) in entries.iter().take(written).enumerate() {
-            (keys[index], values[index]) = (key, value);
-        }
-        (written as u32, (keys, values))
-    }
-
-    /// A length for a lent list: too short, right, or longer than the entries need.
-    fn room(entries: &[(u64, u64)], random: &mut Random) -> usize {
-        random.below(2 * entries.len() + 3)
+    match differences.number == 0 && !few {
+        true => ExitCode::SUCCESS,
+        false => ExitCode::FAILURE,
     }
 }
