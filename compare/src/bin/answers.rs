@@ -1,7 +1,8 @@
 //! Writes a sample of rkyv's answers for a program that replays it without rkyv.
 //!
 //! `answers INPUT EXPECTED` writes questions to the first file and, to the second, the text that a program must print of them. The sample is
-//! the same on every run.
+//! the same on every run. `answers INPUT EXPECTED NUMBER SEED` writes a random one: so many archives, and as many builds and questions of
+//! each other kind; from 10,000 on it ends with 1 if one of the refusals 2 to 18 comes up less than 100 times.
 //!
 //! The input is a sequence of questions, all numbers little-endian. A question starts with its kind (u8), and 0 ends the file:
 //!
@@ -29,36 +30,71 @@
 use std::process::ExitCode;
 use std::{env, fs, io};
 
-use compare::questions::{archives, builds, parts};
+use compare::counts::{Counts, LEAST};
+use compare::questions::{archives, builds, parts, Question};
+use compare::trees::Random;
+
+/// A random sample of this many archives must have each refusal often enough.
+const LONG: usize = 10_000;
 
 fn main() -> ExitCode {
     let arguments: Vec<String> = env::args().skip(1).collect();
-    let [input, expected] = arguments.as_slice() else {
-        eprintln!("usage: answers INPUT EXPECTED");
-        return ExitCode::FAILURE;
+    let (files, number, questions) = match arguments.as_slice() {
+        [input, expected] => ((input, expected), 0, sample()),
+        [input, expected, number, seed] => {
+            let number = number.parse().expect("a number of questions");
+            let seed = seed.parse().expect("a seed");
+            ((input, expected), number, random(number, seed))
+        }
+        _ => {
+            eprintln!("usage: answers INPUT EXPECTED [NUMBER SEED]");
+            return ExitCode::FAILURE;
+        }
     };
-    match write(input, expected) {
-        Ok(()) => ExitCode::SUCCESS,
+    let refusals = match write(files, questions) {
+        Ok(refusals) => refusals,
         Err(error) => {
             eprintln!("answers: {error}");
-            ExitCode::FAILURE
+            return ExitCode::FAILURE;
         }
+    };
+    let rare = refusals.rare(2..=18);
+    if number >= LONG && !rare.is_empty() {
+        println!("less than {LEAST} times: {rare:?}");
+        return ExitCode::FAILURE;
     }
+    ExitCode::SUCCESS
 }
 
-fn write(input: &str, expected: &str) -> io::Result<()> {
-    let (archives, counts) = archives::all();
-    let (builds, parts) = (builds::all(), parts::all());
-    let (number, certified) = counts.all();
-    println!("archives                            {number:9}");
-    println!("certified                           {certified:9}");
-    counts.print(2..=9);
-    println!("builds                              {:9}", builds.len());
-    println!("parts and keys                      {:9}", parts.len());
+/// The sample for the gate.
+fn sample() -> [Vec<Question>; 3] {
+    [archives::all(), builds::all(), parts::all()]
+}
 
+fn random(number: usize, seed: u64) -> [Vec<Question>; 3] {
+    println!("seed {seed}");
+    let random = &mut Random::new(seed);
+    [
+        archives::random(number, seed),
+        builds::random(number, random),
+        parts::random(number, random),
+    ]
+}
+
+/// Writes both files, and gives the refused calls by number.
+fn write(
+    (input, expected): (&String, &String),
+    questions: [Vec<Question>; 3],
+) -> io::Result<Counts> {
+    for (name, questions) in ["archives", "builds", "parts and keys"]
+        .iter()
+        .zip(&questions)
+    {
+        println!("{name:14}                      {:9}", questions.len());
+    }
     let mut bytes = Vec::new();
     let mut lines = archives::longest();
-    for question in archives.into_iter().chain(builds).chain(parts) {
+    for question in questions.into_iter().flatten() {
         bytes.extend(question.bytes);
         lines.extend(question.lines);
     }
@@ -67,5 +103,18 @@ fn write(input: &str, expected: &str) -> io::Result<()> {
     fs::write(expected, lines.join("\n") + "\n")?;
     println!("bytes of input                      {:9}", bytes.len());
     println!("lines of text                       {:9}", lines.len());
-    Ok(())
+    let refusals = refusals(&lines);
+    refusals.print(1..=18);
+    Ok(refusals)
+}
+
+/// The calls that are refused, by number.
+fn refusals(lines: &[String]) -> Counts {
+    let mut counts = Counts::default();
+    for line in lines {
+        if let Some((_, number)) = line.split_once(" refused ") {
+            counts.add::<()>(Err(number.parse().expect("a refusal's number")));
+        }
+    }
+    counts
 }

@@ -5,11 +5,12 @@ use std::ops::Bound;
 
 use super::{length, line, Question};
 use crate::cases;
-use crate::counts::Counts;
 use crate::model::{self, Column, KeyFields};
 use crate::rkyv_map::{self, Accepted, Archive};
 use crate::trees::{self, Random};
 
+/// The longest archive that the input has.
+const LONGEST: usize = 65_536;
 /// Places of each lent list.
 const ROOM: usize = 64;
 /// Generated archives by certify's answer, at 0 the certified ones: how many are taken, and how long they may be. Those nested too deep, 5,
@@ -48,8 +49,8 @@ pub fn longest() -> Vec<String> {
 }
 
 /// Document 01's archives, each asked for all its keys, all its entries and the range of case *4; an archive of packed keys; then generated
-/// ones in the order of their seeds, until there are enough of each kind. And how many there are of each.
-pub fn all() -> (Vec<Question>, Counts) {
+/// ones in the order of their seeds, until there are enough of each kind.
+pub fn all() -> Vec<Question> {
     let random = &mut Random::new(0);
     let mut asked = Vec::new();
     for case in cases::all() {
@@ -75,11 +76,17 @@ pub fn all() -> (Vec<Question>, Counts) {
         }
     }
 
-    let mut counts = Counts::default();
-    for case in &asked {
-        counts.add(model::certify(&case.archive));
-    }
-    (asked.iter().map(Case::question).collect(), counts)
+    asked.iter().map(Case::question).collect()
+}
+
+/// The archives of so many seeds that the program has room for, each with a few questions.
+pub fn random(number: usize, seed: u64) -> Vec<Question> {
+    let random = &mut Random::new(seed);
+    let archives = (seed..seed + number as u64).map(trees::archive);
+    let short = archives.filter(|archive| archive.len() <= LONGEST);
+    short
+        .map(|archive| ask(archive, random).question())
+        .collect()
 }
 
 /// Points of three examinations, and column queries of them: of one column and of several, over the sign, crossed, and refused.

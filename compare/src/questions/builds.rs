@@ -75,6 +75,40 @@ pub fn all() -> Vec<Question> {
     questions
 }
 
+/// So many random builds of up to 40 entries; every fourth with a fault or two.
+pub fn random(number: usize, random: &mut Random) -> Vec<Question> {
+    let builds = (0..number).map(|_| {
+        let (count, header) = (random.below(41), random.below(24) as u64);
+        if random.one_in(4) {
+            faulty(header, count, random)
+        } else {
+            some(header, count, random)
+        }
+    });
+    builds.collect()
+}
+
+/// A build with one of the faults 10 to 14, or with two.
+fn faulty(mut header: u64, count: usize, random: &mut Random) -> Question {
+    let (mut keys, mut values) = entries(count, random);
+    let mut room = 4_096 + 24 * count + 200;
+    for _ in 0..random.pick(&[1, 1, 2]) {
+        match random.below(5) {
+            0 => values.push(0),
+            1 if count > 1 => keys.swap(0, count - 1),
+            2 => {
+                let many = 40_001 + random.below(2);
+                let list = List::Steps(many, 1, 1);
+                return build(header, Room::Of(room), &list, &list);
+            }
+            3 => header = 4_097 + random.number() % 3,
+            _ => room = random.below(header.min(4_096) as usize + 8),
+        }
+    }
+    let (keys, values) = (List::Numbers(keys), List::Numbers(values));
+    build(header, Room::Of(room), &keys, &values)
+}
+
 fn count_up(count: usize) -> List {
     List::Numbers((1..=count as u64).collect())
 }
@@ -101,24 +135,24 @@ fn named() -> Vec<Question> {
     questions
 }
 
-/// As many entries with gaps of any size, behind a header, in an output that goes on past the archive.
-fn some(header: u64, count: usize, random: &mut Random) -> Question {
+/// As many ascending keys with gaps of any size, and values.
+fn entries(count: usize, random: &mut Random) -> (Vec<u64>, Vec<u64>) {
     let widest = u64::MAX / (count as u64 + 1);
     let mut key = random.number() % widest;
-    let mut keys = Vec::new();
-    let mut values = Vec::new();
+    let (mut keys, mut values) = (Vec::new(), Vec::new());
     for _ in 0..count {
         keys.push(key);
         values.push(random.number());
-        key += 1 + random.number() % widest.saturating_sub(1).max(1);
+        key += 1 + random.number() % (widest - 1);
     }
-    let past = random.below(24) as isize;
-    build(
-        header,
-        Room::Past(past),
-        &List::Numbers(keys),
-        &List::Numbers(values),
-    )
+    (keys, values)
+}
+
+/// The build of as many entries, behind a header, in an output that goes on past the archive.
+fn some(header: u64, count: usize, random: &mut Random) -> Question {
+    let (keys, values) = entries(count, random);
+    let room = Room::Past(random.below(24) as isize);
+    build(header, room, &List::Numbers(keys), &List::Numbers(values))
 }
 
 /// Calls that 10 to 14 refuse, and the last that each lets through.

@@ -5,58 +5,89 @@ use crate::model::{self, KeyFields};
 use crate::rkyv_parts;
 use crate::trees::Random;
 
-/// Random questions of each kind, after those that document 01 speaks of.
+/// Random questions of each kind in the sample for the gate.
 const RANDOM: usize = 24;
 
-/// Document 01's: cases *1 to *3 and *9, an absent mark at the largest position, alignments 32, 64 and 0, a padded position past the largest,
-/// each field of a key at and past its end; and random ones.
+/// Those that document 01 speaks of, and random ones.
 pub fn all() -> Vec<Question> {
-    let random = &mut Random::new(1);
-    let (half, most) = (1 << 63, u64::MAX);
-    let mut questions = Vec::new();
-
-    let mut pairs = vec![(half, 0), (0, half), (0, (1 << 31) - 1), (0, 1 << 31)];
-    pairs.extend([(1 << 31, 0), ((1 << 31) + 1, 0), (most, 0), (0, most)]);
-    pairs.extend([(0, 0), (most, most), (192, 8), (208, 96), (half + 1, 0)]);
-    pairs.extend((0..RANDOM).map(|_| (position(random), position(random))));
-    questions.extend(pairs.iter().map(|&(from, to)| distance(from, to)));
-    questions.extend(pairs.iter().map(|&(from, to)| offset(from, to)));
-
-    let mut positions = vec![0, 1, 1 << 31, half - 1, half, most - 1, most];
-    positions.extend((0..RANDOM).map(|_| position(random)));
-    questions.extend(positions.iter().map(|&at| absent(at)));
-
-    let mut steps = vec![(5, 8), (8, 8), (1, 32), (0, 64), (1, 64), (0, 0), (7, 0)];
-    steps.extend([(most, 1), (most, 2), (most - 31, 32), (most - 30, 32)]);
-    steps.extend([(3, 3), (0, 12), (0, most), (0, half)]);
-    let alignments = [1, 2, 4, 8, 16, 32];
-    steps.extend((0..RANDOM).map(|_| (position(random), random.pick(&alignments))));
-    questions.extend(steps.iter().map(|&(position, by)| align(position, by)));
-
-    let mut keys = vec![key(1, 0, -3, 3, 2)];
-    let (examinations, presentations) = (1 << 24, 1 << 23);
-    keys.extend([
-        key(examinations - 1, 1, -1, -1, presentations - 1),
-        key(0, 0, i8::MIN, i8::MAX, 0),
-        key(examinations, 0, 0, 0, 0),
-        key(u32::MAX, 0, 0, 0, 0),
-        key(0, 2, 0, 0, 0),
-        key(0, u8::MAX, 0, 0, 0),
-        key(0, 0, 0, 0, presentations),
-        key(0, 0, 0, 0, u32::MAX),
-        key(examinations, 2, -128, 127, presentations),
-    ]);
-    keys.extend((0..RANDOM).map(|_| {
-        let bits = random.number();
-        let [x, y] = [bits as i8, (bits >> 8) as i8];
-        let (examination, presentation) = ((bits >> 40) as u32, (bits >> 20) as u32);
-        key(examination, x as u8 % 2, x, y, presentation % presentations)
-    }));
-    questions.extend(keys.iter().map(pack));
-    let mut packed: Vec<u64> = keys.iter().flat_map(model::pack).collect();
-    packed.extend([0, 1, half, most, random.number()]);
-    questions.extend(packed.iter().map(|&key| unpack(key)));
+    let mut questions = Asked::named().questions();
+    questions.extend(random(RANDOM, &mut Random::new(1)));
     questions
+}
+
+/// So many random questions of each kind.
+pub fn random(number: usize, random: &mut Random) -> Vec<Question> {
+    let mut asked = Asked::default();
+    for _ in 0..number {
+        asked.pairs.push((position(random), position(random)));
+        asked.positions.push(position(random));
+        let alignment = random.pick(&[1, 2, 4, 8, 16, 32, 32, 0, 3, 64]);
+        asked.steps.push((position(random), alignment));
+        asked.keys.push(any_key(random));
+        asked.packed.push(random.number());
+    }
+    asked.questions()
+}
+
+/// What is asked of the parts and of key packing.
+#[derive(Default)]
+struct Asked {
+    /// Two positions for a difference and an offset.
+    pairs: Vec<(u64, u64)>,
+    /// Positions of absent marks.
+    positions: Vec<u64>,
+    /// Positions and alignments.
+    steps: Vec<(u64, u64)>,
+    /// Keys to pack, and those that can be are unpacked again.
+    keys: Vec<KeyFields>,
+    /// Keys to unpack.
+    packed: Vec<u64>,
+}
+
+impl Asked {
+    /// Document 01's: cases *1 to *3 and *9, an absent mark at the largest position, alignments 32, 64 and 0, a padded position past the
+    /// largest, each field of a key at and past its end.
+    fn named() -> Self {
+        let (half, most) = (1 << 63, u64::MAX);
+        let (examinations, presentations) = (1 << 24, 1 << 23);
+        let mut pairs = vec![(half, 0), (0, half), (0, (1 << 31) - 1), (0, 1 << 31)];
+        pairs.extend([(1 << 31, 0), ((1 << 31) + 1, 0), (most, 0), (0, most)]);
+        pairs.extend([(0, 0), (most, most), (192, 8), (208, 96), (half + 1, 0)]);
+        let mut steps = vec![(5, 8), (8, 8), (1, 32), (0, 64), (1, 64), (0, 0), (7, 0)];
+        steps.extend([(most, 1), (most, 2), (most - 31, 32), (most - 30, 32)]);
+        steps.extend([(3, 3), (0, 12), (0, most), (0, half)]);
+        let keys = vec![
+            key(1, 0, -3, 3, 2),
+            key(examinations - 1, 1, -1, -1, presentations - 1),
+            key(0, 0, i8::MIN, i8::MAX, 0),
+            key(examinations, 0, 0, 0, 0),
+            key(u32::MAX, 0, 0, 0, 0),
+            key(0, 2, 0, 0, 0),
+            key(0, u8::MAX, 0, 0, 0),
+            key(0, 0, 0, 0, presentations),
+            key(0, 0, 0, 0, u32::MAX),
+            key(examinations, 2, -128, 127, presentations),
+        ];
+        Self {
+            pairs,
+            positions: vec![0, 1, 1 << 31, half - 1, half, most - 1, most],
+            steps,
+            keys,
+            packed: vec![0, 1, half, most],
+        }
+    }
+
+    fn questions(&self) -> Vec<Question> {
+        let mut questions = Vec::new();
+        questions.extend(self.pairs.iter().map(|&(from, to)| distance(from, to)));
+        questions.extend(self.pairs.iter().map(|&(from, to)| offset(from, to)));
+        questions.extend(self.positions.iter().map(|&at| absent(at)));
+        questions.extend(self.steps.iter().map(|&(position, by)| align(position, by)));
+        questions.extend(self.keys.iter().map(pack));
+        let packed = self.keys.iter().flat_map(model::pack);
+        questions.extend(packed.chain(self.packed.iter().copied()).map(unpack));
+        questions
+    }
 }
 
 fn key(examination: u32, eye: u8, x: i8, y: i8, presentation: u32) -> KeyFields {
@@ -69,11 +100,31 @@ fn key(examination: u32, eye: u8, x: i8, y: i8, presentation: u32) -> KeyFields 
     }
 }
 
-/// A position of any size: small ones, near a power of two, and large ones.
+/// A key whose fields fit as a rule.
+fn any_key(random: &mut Random) -> KeyFields {
+    let bits = random.number();
+    let [eye, x, y] = [bits as u8 % 2, (bits >> 8) as u8, (bits >> 16) as u8];
+    let mut key = key(
+        (bits >> 40) as u32,
+        eye,
+        x as i8,
+        y as i8,
+        random.number() as u32 >> 9,
+    );
+    match random.below(12) {
+        0 => key.examination = random.pick(&[1 << 24, u32::MAX, bits as u32]),
+        1 => key.eye = random.pick(&[2, 3, 255]),
+        2 => key.presentation = random.pick(&[1 << 23, u32::MAX, bits as u32]),
+        _ => (),
+    }
+    key
+}
+
+/// A position of any size: small ones, near a power of two, large ones, and once in a while the largest.
 fn position(random: &mut Random) -> u64 {
     let shift = random.below(64);
     let any = random.number() >> shift;
-    random.pick(&[any, any | 1 << 31, any | 1 << 63])
+    random.pick(&[any, any | 1 << 31, any | 1 << 63, !any, any, u64::MAX])
 }
 
 /// A question of this kind about these numbers.
