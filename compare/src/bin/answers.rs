@@ -34,6 +34,13 @@ use compare::counts::{Counts, LEAST};
 use compare::questions::{archives, builds, parts, Question};
 use compare::trees::Random;
 
+/// What rkyv has no answer to, and how the lines begin that have one.
+const NOT_RKYV: [(&str, &[&str]); 4] = [
+    ("certify", &["certify "]),
+    ("refused builds", &["build refused"]),
+    ("refused alignment steps", &["align refused"]),
+    ("keys packed and unpacked", &["pack ", "unpack "]),
+];
 /// A random sample of this many archives must have each refusal often enough.
 const LONG: usize = 10_000;
 
@@ -105,6 +112,11 @@ fn write(
     println!("lines of text                       {:9}", lines.len());
     let refusals = refusals(&lines);
     refusals.print(1..=18);
+    println!("answered by document 01 only, not by rkyv:");
+    for (name, starts) in NOT_RKYV {
+        let answered = |line: &&String| starts.iter().any(|start| line.starts_with(start));
+        println!("  {name:34}{:9}", lines.iter().filter(answered).count());
+    }
     Ok(refusals)
 }
 

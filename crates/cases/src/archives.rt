@@ -20,8 +20,9 @@ use format::CheckAnswer;
 use format::Refusal;
 use libc::STDIN_FILENO;
 
+// The lent lists differ in length, here and in the ranges: the shorter has 64 places.
 fn replay_walk(archive: &[u8]) {
-    let mut keys = [0u64; 64];
+    let mut keys = [0u64; 80];
     let mut values = [0u64; 64];
     print(b"walk ");
     match fieldmap::walk(archive, &mut keys, &mut values) {
@@ -73,7 +74,7 @@ fn replay_range(archive: &[u8]) {
     let lower = next_bound();
     let upper = next_bound();
     let mut keys = [0u64; 64];
-    let mut values = [0u64; 64];
+    let mut values = [0u64; 80];
     print(b"range ");
     let answer = fieldmap::range(archive, lower, upper, &mut keys, &mut values);
     print_range(answer, &keys, &values);
@@ -84,7 +85,7 @@ fn replay_column(archive: &[u8]) {
     let eye = next_u8();
     let a = next_i8();
     let b = next_i8();
-    let mut keys = [0u64; 64];
+    let mut keys = [0u64; 80];
     let mut values = [0u64; 64];
     print(b"column ");
     let answer = fieldmap::column(archive, examination, eye, a, b, &mut keys, &mut values);
