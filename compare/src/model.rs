@@ -370,3 +370,12 @@ pub fn column(column: Column) -> Result<(Bound<u64>, Bound<u64>), u8> {
     let upper = bound(column.b, -1, (1 << 23) - 1)?;
     Ok((Bound::Included(lower), Bound::Included(upper)))
 }
+
+/// "In a value the top bit is 1 for seen, the next 10 bits are the threshold in tenths of a decibel".
+pub fn seen(value: u64) -> bool {
+    value >> 63 == 1
+}
+
+pub fn threshold(value: u64) -> u64 {
+    (value >> 53) & 0x3ff
+}

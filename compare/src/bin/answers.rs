@@ -13,17 +13,18 @@
 //!   and the numbers (form 0, u64), or the first number and the step to the next (form 1, u64).
 //! - 3 and 4: a signed difference and a 32-bit offset, from and to (u64). 5: an absent offset, at (u64). 6: an alignment step, position and
 //!   alignment (u64).
-//! - 7: a key to pack: examination (u32), eye (u8), x and y (i8), presentation (u32). 8: a key to unpack (u64).
+//! - 7: a key to pack: examination (u32), eye (u8), x and y (i8), presentation (u32). 8: a key to unpack (u64). 9: a value to read (u64).
 //!
 //! The text begins with `too long refused 1`, of 1,048,577 bytes that are 165, and `longest`, of 1,048,576 of them, which the program makes
 //! itself. A refused call prints its name and `refused R`. Else, in the order of the questions:
 //!
-//! - of an archive `check N` and `certify N`; `walk W of N` for two lent lists of 64 places, and W lines `KEY VALUE`; for each key
+//! - of an archive `check N` and `certify N`; `walk W of N` for two lent lists, the shorter of 64 places, and W lines `KEY VALUE`; for each key
 //!   `lookup KEY VALUE POSITION` or `lookup none`, and lookup's second form, `bytes 8 NUMBER` or, empty, `bytes 0`; for each range
-//!   `range W of K`, W written to two lists of 64 places and K matching, and W lines `KEY VALUE`; for each column query the same;
+//!   `range W of K`, W written to two such lists and K matching, and W lines `KEY VALUE`; for each column query the same;
 //! - of a build `build N`, `certify N` of the archive, and also where it is refused `checksum C` of the whole output, all of whose bytes are
 //!   165 before;
-//! - `distance D`, `offset O`, `absent O`, `align NEXT ZEROS`, `pack KEY` and `unpack EXAMINATION EYE X Y PRESENTATION`.
+//! - `distance D`, `offset O`, `absent O`, `align NEXT ZEROS`, `pack KEY`, `unpack EXAMINATION EYE X Y PRESENTATION`, and `value THRESHOLD`
+//!   or `value seen THRESHOLD`.
 //!
 //! `compare::questions` says who gives each answer.
 
@@ -39,7 +40,10 @@ const NOT_RKYV: [(&str, &[&str]); 4] = [
     ("certify", &["certify "]),
     ("refused builds", &["build refused"]),
     ("refused alignment steps", &["align refused"]),
-    ("keys packed and unpacked", &["pack ", "unpack "]),
+    (
+        "keys packed and unpacked, values",
+        &["pack ", "unpack ", "value "],
+    ),
 ];
 /// A random sample of this many archives must have each refusal often enough.
 const LONG: usize = 10_000;

@@ -1,4 +1,5 @@
-//! Questions to the parts and to key packing. rkyv answers the parts; document 01 answers 17, which is ours alone, and key packing.
+//! Questions to the parts, to key packing and to the bits of values. rkyv answers the parts; document 01 answers 17, which is ours alone, and
+//! the rest.
 
 use super::{line, Question};
 use crate::model::{self, KeyFields};
@@ -25,11 +26,12 @@ pub fn random(number: usize, random: &mut Random) -> Vec<Question> {
         asked.steps.push((position(random), alignment));
         asked.keys.push(any_key(random));
         asked.packed.push(random.number());
+        asked.values.push(random.number());
     }
     asked.questions()
 }
 
-/// What is asked of the parts and of key packing.
+/// What is asked.
 #[derive(Default)]
 struct Asked {
     /// Two positions for a difference and an offset.
@@ -42,6 +44,8 @@ struct Asked {
     keys: Vec<KeyFields>,
     /// Keys to unpack.
     packed: Vec<u64>,
+    /// Values to read.
+    values: Vec<u64>,
 }
 
 impl Asked {
@@ -74,6 +78,7 @@ impl Asked {
             steps,
             keys,
             packed: vec![0, 1, half, most],
+            values: vec![0, most, half, half - 1, 1 << 53, (1 << 53) - 1, 300 << 53],
         }
     }
 
@@ -86,6 +91,7 @@ impl Asked {
         questions.extend(self.keys.iter().map(pack));
         let packed = self.keys.iter().flat_map(model::pack);
         questions.extend(packed.chain(self.packed.iter().copied()).map(unpack));
+        questions.extend(self.values.iter().map(|&number| value(number)));
         questions
     }
 }
@@ -185,4 +191,13 @@ fn unpack(key: u64) -> Question {
     } = model::unpack(key);
     let text = format!("unpack {examination} {eye} {x} {y} {presentation}");
     about(8, &[key], text)
+}
+
+fn value(value: u64) -> Question {
+    let seen = match model::seen(value) {
+        true => "seen ",
+        false => "",
+    };
+    let text = format!("value {seen}{}", model::threshold(value));
+    about(9, &[value], text)
 }

@@ -11,7 +11,7 @@
 //    byte, and the numbers (form 0) or the first number and the step from one to the next (form 1)
 // 3  a signed difference: two positions     4  a 32-bit offset: two positions     5  an absent offset: a position
 // 6  an alignment step: a position and an alignment
-// 7  a key to pack: examination, eye, x, y and presentation in 4, 1, 1, 1 and 4 bytes     8  a key to unpack
+// 7  a key to pack: examination, eye, x, y and presentation in 4, 1, 1, 1 and 4 bytes     8  a key to unpack     9  a value to read
 mod archives;
 mod builds;
 mod checksum;
@@ -32,6 +32,7 @@ fn replay_one(kind: u8, buffer: &mut [u8]) -> bool {
         6 => parts::replay_align(),
         7 => parts::replay_pack(),
         8 => parts::replay_unpack(),
+        9 => parts::replay_value(),
         _ => {
             return false;
         }

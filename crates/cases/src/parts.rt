@@ -1,4 +1,4 @@
-// Questions to the parts and to key packing.
+// Questions to the parts, to key packing and to the bits of values.
 use crate::input::next_i8;
 use crate::input::next_u8;
 use crate::input::next_u32;
@@ -15,6 +15,8 @@ use fields::ser::writer::Aligned;
 use format::Refusal;
 use perimetry::key::KeyFields;
 use perimetry::key::Packed;
+use perimetry::value::is_seen;
+use perimetry::value::threshold;
 ghost use mathlib.Core.Path.{_≡_};
 
 fn wide8(z: i8) -> i64
@@ -102,4 +104,13 @@ pub fn replay_unpack() {
     print_field(wide8(fields.x));
     print_field(wide8(fields.y));
     print_line(fields.presentation as u64);
+}
+
+pub fn replay_value() {
+    let value = next_u64();
+    print(b"value ");
+    if is_seen(value) {
+        print(b"seen ");
+    }
+    print_line(threshold(value) as u64);
 }
