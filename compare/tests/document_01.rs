@@ -4,9 +4,10 @@ use std::mem::MaybeUninit;
 use std::ops::Bound;
 
 use compare::by_hand::Output;
-use compare::model::KeyFields;
+use compare::model::{Column, KeyFields};
+use compare::questions::builds::checksum;
 use compare::rkyv_map::{build, by_key, Accepted, Archive};
-use compare::{cases, model, rkyv_parts};
+use compare::{cases, model, rkyv_parts, trees};
 use rkyv::rancor::BoxedError;
 use rkyv::rel_ptr::RawRelPtrI32;
 use rkyv::Place;
@@ -286,4 +287,83 @@ fn ends_of_40_000() {
         accepted.range(last.0, last.1),
         [(39_999, 39_999), (40_000, 40_000)]
     );
+}
+
+/// 10 to 14 of a build, each before the later ones, and what each lets through.
+#[test]
+fn build_faults() {
+    let fault = |keys: &[u64], values: usize, header, output| {
+        model::build_fault(keys, &vec![0; values], header, || 104, output)
+    };
+    let many: Vec<u64> = vec![7; 40_001];
+    assert_eq!(fault(&many, 40_000, 4_097, 0), Some(10));
+    assert_eq!(fault(&many, 40_001, 4_097, 0), Some(11));
+    assert_eq!(fault(&many[1..], 40_000, 4_097, 0), Some(12));
+    assert_eq!(fault(&[2, 1], 2, 4_097, 0), Some(12));
+    assert_eq!(fault(&[1, 2], 2, 4_097, 0), Some(13));
+    assert_eq!(fault(&[1, 2], 2, 4_096, 103), Some(14));
+    assert_eq!(fault(&[1, 2], 2, 4_096, 104), None);
+}
+
+/// A column query takes every y and presentation of its columns, and those only.
+#[test]
+fn columns() {
+    let column = |examination, eye, a, b| {
+        model::column(Column {
+            examination,
+            eye,
+            a,
+            b,
+        })
+    };
+    let key = |x, y, presentation| {
+        model::pack(&KeyFields {
+            examination: 1,
+            eye: 0,
+            x,
+            y,
+            presentation,
+        })
+        .unwrap()
+    };
+    let last = (1 << 23) - 1;
+    let bounds = (
+        Bound::Included(key(3, 0, 0)),
+        Bound::Included(key(9, -1, last)),
+    );
+    assert_eq!(column(1, 0, 3, 9), Ok(bounds));
+    assert_eq!(key(10, 0, 0) - key(9, -1, last), 1);
+    assert_eq!(column(1 << 24, 0, 3, 9), Err(18));
+    assert_eq!(column(1, 2, 3, 9), Err(18));
+}
+
+/// The checksum is the remainder of the bytes as a number, and every byte counts.
+#[test]
+fn checksums() {
+    assert_eq!(checksum(&[]), 0);
+    assert_eq!(checksum(&[7]), 7);
+    assert_eq!(checksum(&[1, 2]), 1_000_005);
+    assert_eq!(checksum(&[1, 0, 0]), 1_000_003_u64.pow(2) % 4_294_967_291);
+    let archive = built(36, 0);
+    for position in 0..archive.len() {
+        let mut other = archive.clone();
+        other[position] ^= 1;
+        assert_ne!(checksum(&other), checksum(&archive), "byte {position}");
+    }
+}
+
+/// Among the generated archives are some at the limit and some above it, trees among them.
+#[test]
+fn long_archives() {
+    let mut lengths = [0, 0];
+    let mut accepted = 0;
+    for seed in (0..40).map(|index| 4_096 * index + 4_095) {
+        let archive = trees::archive(seed);
+        assert!(archive.len() >= 1_048_576);
+        lengths[usize::from(model::too_long(&archive))] += 1;
+        assert_eq!(model::check(&archive) == Err(1), model::too_long(&archive));
+        accepted += u32::from(check(&archive).is_ok());
+    }
+    assert!(lengths.iter().all(|&number| number > 0));
+    assert!(accepted > 0);
 }

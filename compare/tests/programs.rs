@@ -139,3 +139,35 @@ fn stored_sample() {
     fs::remove_dir_all(&folder).unwrap();
     assert!(same, "write crates/cases/stdin and stdout anew");
 }
+
+/// A random sample of some hundred archives has refusals of every call, and the same seed gives the same one.
+#[test]
+fn random_sample() {
+    let folder = env::temp_dir().join(format!("compare-random-{}", std::process::id()));
+    fs::create_dir_all(&folder).unwrap();
+    let file = |name: &str| folder.join(name).to_str().unwrap().to_string();
+    let write = |names: [&str; 2], seed| {
+        let [input, expected] = names.map(file);
+        let output = run(
+            env!("CARGO_BIN_EXE_answers"),
+            &[&input, &expected, "300", seed],
+        );
+        assert!(output.status.success());
+        (
+            fs::read(input).unwrap(),
+            fs::read_to_string(expected).unwrap(),
+        )
+    };
+    let (one, again) = (write(["a", "b"], "5"), write(["c", "d"], "5"));
+    let other = write(["e", "f"], "6");
+    fs::remove_dir_all(&folder).unwrap();
+    assert!(one == again);
+    assert!(one != other);
+    for number in 1..=18 {
+        let refused = format!(" refused {number}");
+        assert!(
+            one.1.lines().any(|line| line.ends_with(&refused)),
+            "{number}"
+        );
+    }
+}
