@@ -1,3 +1,4 @@
 -- What the proofs of several functions use.
-mod Codes
+mod Given
 mod Looks
+mod Small

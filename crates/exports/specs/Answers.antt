@@ -1,45 +1,68 @@
--- Answers as one number: what is given, or 2^32 and a refusal's number. Assumes nothing: these are definitions.
+-- Answers as one number, and what lent numbers hold afterwards. Assumes nothing: these are definitions.
 use Prim.Native.Nat.{ℕ, zero, suc, _+_}
+use Rattle.format.specs.declared.Entry.{Entry}
 use Rattle.format.specs.declared.Bound.{Bound}
 use Rattle.format.specs.declared.Bound.the-variants.{Included, Excluded, Unbounded}
 use Rattle.format.specs.declared.Found.{Found}
 use Rattle.format.specs.declared.Found.the-variants.{Entry as found, Nothing as nothing}
 use Rattle.format.specs.Refusal.{Answer, gives, refuses}
+use Rattle.format.specs.Align.{Step}
 use Rattle.format.specs.Calls.{Walk, Matched}
 
-abbrev pub coded : Answer ℕ → ℕ
-coded (gives n) = n
-coded (refuses r) = 4294967296 + r
+-- An answer as one number: that of what is given, or 2^32 and the refusal's number.
+abbrev pub coded : {A : Type 0} → (A → ℕ) → Answer A → ℕ
+coded f (gives a) = f a
+coded f (refuses r) = 4294967296 + r
 
--- Of a walk, the number written.
-abbrev pub codedWalk : Answer Walk → ℕ
-codedWalk (gives w) = w .written
-codedWalk (refuses r) = 4294967296 + r
+-- What a place that held x holds afterwards: a part of what is given, or x on a refusal.
+abbrev pub stored : {A B : Type 0} → (A → B) → Answer A → B → B
+stored f (gives a) x = f a
+stored f (refuses r) x = x
 
 -- Of a lookup, 1 for an entry and 0 for none.
-abbrev pub codedFound : Answer Found → ℕ
-codedFound (gives (found e)) = 1
-codedFound (gives nothing) = 0
-codedFound (refuses r) = 4294967296 + r
+abbrev pub whether : Found → ℕ
+whether (found e) = 1
+whether nothing = 0
 
--- What a place that held v holds after a lookup: the entry's value, or v where there is no entry.
-abbrev pub valueAfter : Answer Found → ℕ → ℕ
-valueAfter (gives (found e)) v = e .value
-valueAfter (gives nothing) v = v
-valueAfter (refuses r) v = v
+-- How many bytes the value's part of the archive has: eight, or none where there is no entry or the archive is refused.
+abbrev pub partLength : Answer Found → ℕ
+partLength (gives (found e)) = 8
+partLength (gives nothing) = 0
+partLength (refuses r) = 0
+
+-- What a place that held x holds after a lookup: a part of the entry, or x where there is none.
+abbrev pub storedFound : (Entry → ℕ) → Answer Found → ℕ → ℕ
+storedFound f (gives (found e)) x = f e
+storedFound f (gives nothing) x = x
+storedFound f (refuses r) x = x
+
+-- The parts of what is given, by name.
+abbrev pub valueOf : Entry → ℕ
+valueOf e = e .value
+
+abbrev pub positionOf : Entry → ℕ
+positionOf e = e .position .0
+
+abbrev pub writtenOf : Walk → ℕ
+writtenOf w = w .written
+
+abbrev pub countOf : Walk → ℕ
+countOf w = w .count
+
+abbrev pub matchedOf : Matched → ℕ
+matchedOf m = m .written
+
+abbrev pub matchingOf : Matched → ℕ
+matchingOf m = m .matching
+
+abbrev pub nextOf : Step → ℕ
+nextOf s = s .next
+
+abbrev pub zerosOf : Step → ℕ
+zerosOf s = s .zeros
 
 -- A bound by its kind and key.
 abbrev pub boundOf : ℕ → ℕ → Bound
 boundOf zero k = Included k
 boundOf (suc zero) k = Excluded k
 boundOf (suc (suc n)) k = Unbounded
-
--- Of a range, the number written.
-abbrev pub codedRange : Answer Matched → ℕ
-codedRange (gives m) = m .written
-codedRange (refuses r) = 4294967296 + r
-
--- What a place that held v holds after a range: the number matching, or v where it is refused.
-abbrev pub matchingAfter : Answer Matched → ℕ → ℕ
-matchingAfter (gives m) v = m .matching
-matchingAfter (refuses r) v = v

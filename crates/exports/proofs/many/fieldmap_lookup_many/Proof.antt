@@ -1,0 +1,73 @@
+-- `exports::many::fieldmap_lookup_many` meets its contract. Assumes nothing.
+use Prim.Native.Nat.{ℕ}
+use mathlib.Core.Path.{_≡_, sym, ap, _∙_}
+use native.Mathlib.Omega.{arith}
+use Rattle.format.specs.Layout.{layout32, standard}
+use Rattle.format.specs.Check.{counted, checkArchive}
+use Rattle.format.specs.Refusal.{number, gives, refuses, checkOf}
+use Rattle.format.specs.Laws.Opened.{room-for, root-back, node}
+use borrow.Author.Needs.{needs}
+use Rattle.exports.specs.Answers.{coded}
+use Rattle.exports.proofs.Looks.{many-refuses, many-values-refuses, many-none, many-values-none, many-gives, many-values-gives}
+use Rattle.exports.proofs.many.fieldmap_lookup_many.Statement.{statement}
+use Rattle.exports.proofs.many.fieldmap_lookup_many.Tie as tie
+
+-- What the check told: accepted with the count, or refused.
+opened : (c : tie.After-count) → counted (checkArchive layout32 standard (c .before .before .before .before .before .before .args .archive .now)) ≡ gives (c .count .given .0 .0)
+opened c = sym (c .before .before .check .ensures) ∙ ap checkOf (c .count .given .1)
+
+shut : (c : tie.After-why) → counted (checkArchive layout32 standard (c .before .before .before .before .before .before .args .archive .now)) ≡ refuses (number (c .why .given .0 .0))
+shut c = sym (c .before .before .check .ensures) ∙ ap checkOf (c .why .given .1)
+
+check-requires : tie.Need-check-requires
+check-requires c κs = search needs
+
+enum-known-why : tie.Need-enum-known-why
+enum-known-why c = search needs
+
+refused-requires : tie.Need-refused-requires
+refused-requires c κs = search needs
+
+enum-known-count : tie.Need-enum-known-count
+enum-known-count c = search needs
+
+returns : tie.Need-returns
+returns c = let o = opened (c .before .before) in
+    (sym (ap (coded (λ (n : ℕ). n)) (many-none layout32 standard _ _ o _ _ (c .if1 .taken))), sym (many-values-none layout32 standard _ _ o _ _ (c .if1 .taken)))
+
+sub-t11 : tie.Need-sub-t11
+sub-t11 c = omega (arith, room-for layout32 standard _ _ (opened (c .before .before)))
+
+pointed-requires : tie.Need-pointed-requires
+pointed-requires c κs = (omega (arith, room-for layout32 standard _ _ (opened (c .before .before))), root-back layout32 standard _ _ (opened (c .before .before)) (c .if1 .left))
+
+look-up-all-requires : tie.Need-look-up-all-requires
+look-up-all-requires c κs = node layout32 standard _ _ (opened (c .before .before .before .before)) (c .before .before .if1 .left) _ (c .before .pointed .ensures)
+
+returns-2 : tie.Need-returns-2
+returns-2 c = let o = shut (c .before .before) in
+    (c .refused .ensures ∙ sym (ap (coded (λ (n : ℕ). n)) (many-refuses layout32 standard _ _ o _ _)), sym (many-values-refuses layout32 standard _ _ o _ _))
+
+same-length : tie.Need-same-length
+same-length c = search needs
+
+returns-3 : tie.Need-returns-3
+returns-3 c = let k = c .before .before .before .before in
+    let e = c .before .before .look-up-all .ensures in
+    (sym (ap (coded (λ (n : ℕ). n)) (many-gives layout32 standard _ _ (opened (k .before .before .before)) _ _ (k .before .if1 .left) _ (k .pointed .ensures) _ _ e)), sym (many-values-gives layout32 standard _ _ (opened (k .before .before .before)) _ _ (k .before .if1 .left) _ (k .pointed .ensures) _ _ e))
+
+pub fieldmap-lookup-many-spec : {M : Type 1} → statement M
+fieldmap-lookup-many-spec =
+    tie.close
+    (tie.spec
+    check-requires
+    enum-known-why
+    refused-requires
+    enum-known-count
+    returns
+    sub-t11
+    pointed-requires
+    look-up-all-requires
+    returns-2
+    same-length
+    returns-3)

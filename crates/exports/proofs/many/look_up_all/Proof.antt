@@ -1,0 +1,60 @@
+-- `exports::many::look_up_all` meets its contract. Assumes nothing.
+use mathlib.Core.Path.{_≡_}
+use Prim.Native.Nat.{_-_, _≤_}
+use native.Mathlib.Omega.{arith}
+use lib.ListN.{length}
+use borrow.Author.Needs.{needs}
+use Rattle.format.specs.Layout.{layout32, standard, nested}
+use Rattle.format.specs.Lookup.{lookupAt}
+use Rattle.exports.specs.Many.{many, firstMany}
+use Rattle.exports.proofs.Looks.{first-none, first-more, first-all, found-most}
+use Rattle.exports.proofs.many.look_up_all.Statement.{statement}
+use Rattle.exports.proofs.many.look_up_all.Tie as tie
+
+abbrev Inv-loop : tie.InvT-loop
+Inv-loop archive root keys values₀ n found₀ i₀ values found i =
+    (i ≤ n) × (length values ≡ length values₀)
+    × (many values found ≡ firstMany (λ k. lookupAt layout32 archive k (nested standard) (root .0)) keys values₀ i)
+
+abbrev μ-loop : tie.MeasureT-loop
+μ-loop archive root keys values₀ n found₀ i₀ values found i = n - i
+
+shorter-requires : tie.Need-shorter-requires Inv-loop μ-loop
+shorter-requires c κs = search needs
+
+loop-holds : tie.Need-loop-holds Inv-loop μ-loop
+loop-holds c = (search needs, search needs, first-none _ _ _)
+
+look-up-at-requires : tie.Need-look-up-at-requires Inv-loop μ-loop
+look-up-at-requires c κs = let head = c .before .before in
+    (head .before .before .before .before .before .pre, omega (arith, c .before .loop-test .taken, head .before .shorter .ensures), omega (arith, c .before .loop-test .taken, head .before .shorter .ensures, head .loop .inv .1), found-most _ _ _ _ _ _ (head .loop .inv .2))
+
+add-i : tie.Need-add-i Inv-loop μ-loop
+add-i c = search needs
+
+loop-less : tie.Need-loop-less Inv-loop μ-loop
+loop-less c = search needs
+
+loop-again : tie.Need-loop-again Inv-loop μ-loop
+loop-again c = (search needs, search needs, first-more _ _ _ _ _ _ (c .before .before .before .before .before .loop .inv .2) _ _ (c .before .before .look-up-at .ensures))
+
+same-length : tie.Need-same-length Inv-loop μ-loop
+same-length c = search needs
+
+returns : tie.Need-returns Inv-loop μ-loop
+returns c = first-all _ _ _ _ _ _ (c .before .loop .inv .2) _ (c .before .before .shorter .ensures) (c .before .loop .inv .0) (c .loop-test .left)
+
+pub look-up-all-spec : {M : Type 1} → statement M
+look-up-all-spec =
+    tie.close
+    (tie.spec
+    Inv-loop
+    μ-loop
+    shorter-requires
+    loop-holds
+    look-up-at-requires
+    add-i
+    loop-less
+    loop-again
+    same-length
+    returns)

@@ -1,0 +1,43 @@
+-- `exports::range::fieldmap_range` meets its contract. Assumes nothing.
+use mathlib.Core.Path.{_∙_, sym, ap}
+use borrow.Author.Needs.{needs}
+use Rattle.fieldmap.specs.Answers.{rangeOf}
+use Rattle.exports.specs.Answers.{matchedOf, matchingOf}
+use Rattle.exports.proofs.Given.{code-given, code-refused, store-given, store-refused}
+use Rattle.exports.proofs.range.fieldmap_range.Statement.{statement}
+use Rattle.exports.proofs.range.fieldmap_range.Tie as tie
+
+returns : tie.Need-returns
+returns c =
+    let k = c .before .before .before .before .before .before .before .before in
+    let b = k .before .before .before in
+    let p = k .range .ensures in
+    let e = sym (p .0) ∙ ap rangeOf (c .before .before .why .given .1) in
+    rw (sym (b .before .bound .ensures), sym (b .bound2 .ensures))
+    (code-refused matchedOf e (c .refused .ensures), (p .1 .0, (p .1 .1, store-refused matchingOf _ e)))
+
+returns-2 : tie.Need-returns-2
+returns-2 c =
+    let k = c .before .before .before .before .before .before .before in
+    let b = k .before .before .before in
+    let p = k .range .ensures in
+    let e = sym (p .0) ∙ ap rangeOf (c .before .written .given .1) in
+    rw (sym (b .before .bound .ensures), sym (b .bound2 .ensures))
+    (code-given matchedOf e, (p .1 .0, (p .1 .1, store-given matchingOf _ e)))
+
+pub fieldmap-range-spec : {M : Type 1} → statement M
+fieldmap-range-spec =
+    tie.close
+    (tie.spec
+    (λ c κs. search needs)
+    (λ c κs. search needs)
+    (λ c κs. search needs)
+    (search needs)
+    (λ c κs. search needs)
+    (search needs)
+    (search needs)
+    (search needs)
+    returns
+    (search needs)
+    (search needs)
+    returns-2)

@@ -1,0 +1,54 @@
+// Key packing. x and y are signed numbers of 8 bits.
+use crate::codes::refused;
+use perimetry::key::Packed;
+ghost use mathlib.Core.Path.{_≡_};
+ghost use Rattle.format.specs.Key.{packKey, fieldsOf};
+ghost use Rattle.exports.specs.Answers.{coded, stored};
+
+// Stores the key of an examination's fields and answers 0.
+#[no_mangle]
+pub extern "C" fn fieldmap_pack(
+    examination: u32,
+    eye: u8,
+    x: i8,
+    y: i8,
+    presentation: u32,
+    key: &mut u64,
+) -> u64
+    ensures answer { λ r. ⌜ r ≡ coded (λ k. 0) (packKey examination eye x y presentation) ⌝ }
+    ensures key { λ r. ⌜ now (key .exit) ≡ stored (λ k. k) (packKey examination eye x y presentation) (now (key .entry)) ⌝ }
+{
+    match fieldmap::pack(examination, eye, x, y, presentation) {
+        Packed::Refused(why) => refused(why),
+        Packed::Key(k) => {
+            *key = k;
+            0
+        }
+    }
+}
+
+// Stores the fields of a key. Every key has them, so there is no answer.
+#[no_mangle]
+pub extern "C" fn fieldmap_unpack(
+    key: u64,
+    examination: &mut u32,
+    eye: &mut u8,
+    x: &mut i8,
+    y: &mut i8,
+    presentation: &mut u32,
+)
+    ensures examination { λ _. ⌜ now (examination .exit) ≡ fieldsOf key .examination ⌝ }
+    ensures eye { λ _. ⌜ now (eye .exit) ≡ fieldsOf key .eye ⌝ }
+    ensures x { λ _. ⌜ now (x .exit) ≡ fieldsOf key .x ⌝ }
+    ensures y { λ _. ⌜ now (y .exit) ≡ fieldsOf key .y ⌝ }
+    ensures presentation { λ _. ⌜ now (presentation .exit) ≡ fieldsOf key .presentation ⌝ }
+{
+    let f = fieldmap::unpack(key);
+    let degrees_x = f.x;
+    let degrees_y = f.y;
+    *examination = f.examination;
+    *eye = f.eye;
+    *x = degrees_x;
+    *y = degrees_y;
+    *presentation = f.presentation;
+}

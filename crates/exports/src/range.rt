@@ -1,0 +1,72 @@
+// Ranges of keys of a certified archive.
+use crate::codes::bound;
+use crate::codes::refused;
+use fieldmap::RangeAnswer;
+ghost use mathlib.Core.Path.{_≡_};
+ghost use Rattle.format.specs.Layout.{layout32, standard};
+ghost use Rattle.format.specs.Calls.{rangeCall, rangeKeys, rangeValues, columnCall, columnKeys, columnValues};
+ghost use Rattle.exports.specs.Answers.{coded, stored, boundOf, matchedOf, matchingOf};
+
+// Writes keys and values of the entries that meet both bounds until the shorter list is full, and stores how many there are. The number written.
+#[no_mangle]
+pub extern "C" fn fieldmap_range(
+    archive: &[u8],
+    lower_kind: u8,
+    lower: u64,
+    upper_kind: u8,
+    upper: u64,
+    keys: &mut [u64],
+    values: &mut [u64],
+    matching: &mut u64,
+) -> u64
+    ensures answer { λ r. ⌜ r ≡ coded matchedOf
+        (rangeCall layout32 standard (now (archive .entry)) (boundOf «lower_kind» lower) (boundOf «upper_kind» upper) (now (keys .entry)) (now (values .entry))) ⌝ }
+    ensures keys { λ r. ⌜ now (keys .exit)
+        ≡ rangeKeys layout32 standard (now (archive .entry)) (boundOf «lower_kind» lower) (boundOf «upper_kind» upper) (now (keys .entry)) (now (values .entry)) ⌝ }
+    ensures values { λ r. ⌜ now (values .exit)
+        ≡ rangeValues layout32 standard (now (archive .entry)) (boundOf «lower_kind» lower) (boundOf «upper_kind» upper) (now (keys .entry)) (now (values .entry)) ⌝ }
+    ensures matching { λ r. ⌜ now (matching .exit) ≡ stored matchingOf
+        (rangeCall layout32 standard (now (archive .entry)) (boundOf «lower_kind» lower) (boundOf «upper_kind» upper) (now (keys .entry)) (now (values .entry)))
+        (now (matching .entry)) ⌝ }
+{
+    let from = bound(lower_kind, lower);
+    let to = bound(upper_kind, upper);
+    match fieldmap::range(archive, from, to, keys, values) {
+        RangeAnswer::Refused(why) => refused(why),
+        RangeAnswer::Matched(written, all) => {
+            *matching = all as u64;
+            written as u64
+        }
+    }
+}
+
+// The range of a column query: one eye of one examination, x from a to b. It writes, stores and answers as a range does.
+#[no_mangle]
+pub extern "C" fn fieldmap_column(
+    archive: &[u8],
+    examination: u32,
+    eye: u8,
+    a: i8,
+    b: i8,
+    keys: &mut [u64],
+    values: &mut [u64],
+    matching: &mut u64,
+) -> u64
+    ensures answer { λ r. ⌜ r ≡ coded matchedOf
+        (columnCall layout32 standard (now (archive .entry)) examination eye a b (now (keys .entry)) (now (values .entry))) ⌝ }
+    ensures keys { λ r. ⌜ now (keys .exit)
+        ≡ columnKeys layout32 standard (now (archive .entry)) examination eye a b (now (keys .entry)) (now (values .entry)) ⌝ }
+    ensures values { λ r. ⌜ now (values .exit)
+        ≡ columnValues layout32 standard (now (archive .entry)) examination eye a b (now (keys .entry)) (now (values .entry)) ⌝ }
+    ensures matching { λ r. ⌜ now (matching .exit) ≡ stored matchingOf
+        (columnCall layout32 standard (now (archive .entry)) examination eye a b (now (keys .entry)) (now (values .entry)))
+        (now (matching .entry)) ⌝ }
+{
+    match fieldmap::column(archive, examination, eye, a, b, keys, values) {
+        RangeAnswer::Refused(why) => refused(why),
+        RangeAnswer::Matched(written, all) => {
+            *matching = all as u64;
+            written as u64
+        }
+    }
+}

@@ -1,0 +1,95 @@
+// The readers of an archive: check, certify, lookup and walk.
+use crate::codes::counted;
+use crate::codes::refused;
+use fieldmap::LookupAnswer;
+use fieldmap::WalkAnswer;
+ghost use mathlib.Core.Path.{_≡_};
+ghost use lib.ListN.{take, drop};
+ghost use Rattle.format.specs.Layout.{layout32, standard};
+ghost use Rattle.format.specs.Check.{counted, checkArchive};
+ghost use Rattle.format.specs.Certify.{certify};
+ghost use Rattle.format.specs.Calls.{lookupCall, bytesCall, walkCall, walkKeys, walkValues};
+ghost use Rattle.exports.specs.Answers.{coded, stored, whether, partLength, storedFound, valueOf, positionOf, writtenOf, countOf};
+
+// The recorded count, or the first fault of 1 to 7.
+#[no_mangle]
+pub extern "C" fn fieldmap_check(archive: &[u8]) -> u64
+    ensures { λ r. ⌜ r ≡ coded (λ n. n) (counted (checkArchive layout32 standard (now (archive .entry)))) ⌝ }
+{
+    counted(fieldmap::check(archive))
+}
+
+// The recorded count, or the first fault of 1 to 9.
+#[no_mangle]
+pub extern "C" fn fieldmap_certify(archive: &[u8]) -> u64
+    ensures { λ r. ⌜ r ≡ coded (λ n. n) (counted (certify layout32 standard (now (archive .entry)))) ⌝ }
+{
+    counted(fieldmap::certify(archive))
+}
+
+// Stores the value of a key and the position of the value's first byte and answers 1, or answers 0 where no entry has that key.
+#[no_mangle]
+pub extern "C" fn fieldmap_lookup(
+    archive: &[u8],
+    key: u64,
+    value: &mut u64,
+    position: &mut u64,
+) -> u64
+    ensures answer { λ r. ⌜ r ≡ coded whether (lookupCall layout32 standard (now (archive .entry)) key) ⌝ }
+    ensures value { λ r. ⌜ now (value .exit) ≡ storedFound valueOf (lookupCall layout32 standard (now (archive .entry)) key) (now (value .entry)) ⌝ }
+    ensures position { λ r. ⌜ now (position .exit)
+        ≡ storedFound positionOf (lookupCall layout32 standard (now (archive .entry)) key) (now (position .entry)) ⌝ }
+{
+    match fieldmap::lookup(archive, key) {
+        LookupAnswer::Refused(why) => refused(why),
+        LookupAnswer::Nothing => 0,
+        LookupAnswer::Entry(e) => {
+            *value = e.value;
+            *position = e.position.0 as u64;
+            1
+        }
+    }
+}
+
+// The eight bytes of a key's value as a part of the archive: stores where the part starts and answers its length, 8. The part is empty where no
+// entry has that key or the archive is refused: the answer is 0, and the start stays.
+#[no_mangle]
+pub extern "C" fn fieldmap_lookup_bytes(archive: &[u8], key: u64, start: &mut u64) -> u64
+    ensures answer { λ r. ⌜ r ≡ partLength (lookupCall layout32 standard (now (archive .entry)) key) ⌝ }
+    ensures start { λ r. ⌜ now (start .exit)
+        ≡ storedFound positionOf (lookupCall layout32 standard (now (archive .entry)) key) (now (start .entry)) ⌝ }
+    ensures part { λ r. ⌜ take r (drop (now (start .exit)) (now (archive .entry))) ≡ bytesCall layout32 standard (now (archive .entry)) key ⌝ }
+{
+    match fieldmap::lookup(archive, key) {
+        LookupAnswer::Refused(_) => 0,
+        LookupAnswer::Nothing => 0,
+        LookupAnswer::Entry(e) => {
+            *start = e.position.0 as u64;
+            8
+        }
+    }
+}
+
+// Writes keys and values in the order of the walk until the shorter list is full, and stores the recorded count. The number written.
+#[no_mangle]
+pub extern "C" fn fieldmap_walk(
+    archive: &[u8],
+    keys: &mut [u64],
+    values: &mut [u64],
+    count: &mut u64,
+) -> u64
+    ensures answer { λ r. ⌜ r
+        ≡ coded writtenOf (walkCall layout32 standard (now (archive .entry)) (now (keys .entry)) (now (values .entry))) ⌝ }
+    ensures keys { λ r. ⌜ now (keys .exit) ≡ walkKeys layout32 standard (now (archive .entry)) (now (keys .entry)) (now (values .entry)) ⌝ }
+    ensures values { λ r. ⌜ now (values .exit) ≡ walkValues layout32 standard (now (archive .entry)) (now (keys .entry)) (now (values .entry)) ⌝ }
+    ensures count { λ r. ⌜ now (count .exit)
+        ≡ stored countOf (walkCall layout32 standard (now (archive .entry)) (now (keys .entry)) (now (values .entry))) (now (count .entry)) ⌝ }
+{
+    match fieldmap::walk(archive, keys, values) {
+        WalkAnswer::Refused(why) => refused(why),
+        WalkAnswer::Walked(written, all) => {
+            *count = all as u64;
+            written as u64
+        }
+    }
+}

@@ -1,0 +1,20 @@
+// The builder.
+use crate::codes::refused;
+use builder::build::BuildAnswer;
+ghost use mathlib.Core.Path.{_≡_};
+ghost use lib.ListN.{length};
+ghost use Rattle.format.specs.Layout.{layout32};
+ghost use Rattle.format.specs.Build.{build, outAfter};
+ghost use Rattle.exports.specs.Answers.{coded};
+
+// Writes the given entries as an archive behind the first `header` bytes of the output, which stay. The archive's end.
+#[no_mangle]
+pub extern "C" fn fieldmap_build(out: &mut [u8], header: usize, keys: &[u64], values: &[u64]) -> u64
+    ensures answer { λ r. ⌜ r ≡ coded (λ n. n) (build layout32 (now (keys .entry)) (now (values .entry)) header (length (now (out .entry)))) ⌝ }
+    ensures bytes { λ r. ⌜ now (out .exit) ≡ outAfter layout32 (now (keys .entry)) (now (values .entry)) header (now (out .entry)) ⌝ }
+{
+    match fieldmap::build(out, header, keys, values) {
+        BuildAnswer::Built(end) => end as u64,
+        BuildAnswer::Refused(why) => refused(why),
+    }
+}
