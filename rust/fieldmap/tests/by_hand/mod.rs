@@ -1,0 +1,69 @@
+//! Archives written node by node.
+
+/// Bytes to which nodes are added, each after its children.
+#[derive(Default)]
+pub struct Output {
+    pub bytes: Vec<u8>,
+}
+
+impl Output {
+    fn offset(&mut self, position: Option<usize>) {
+        let field = self.bytes.len() as i32;
+        let offset = position.map_or(1, |position| position as i32 - field);
+        self.bytes.extend(offset.to_le_bytes());
+    }
+
+    fn head(&mut self, kind: u8, slots: &[(u64, u64)]) -> usize {
+        let position = self.bytes.len();
+        self.bytes.extend(u64::from(kind).to_le_bytes());
+        let slot = |index: usize| slots.get(index).copied().unwrap_or_default();
+        for index in 0..5 {
+            self.bytes.extend(slot(index).0.to_le_bytes());
+        }
+        for index in 0..5 {
+            self.bytes.extend(slot(index).1.to_le_bytes());
+        }
+        position
+    }
+
+    /// A leaf, with a count of its own. Gives its position, as `inner` does.
+    pub fn leaf(&mut self, count: u32, slots: &[(u64, u64)]) -> usize {
+        let position = self.head(0, slots);
+        self.bytes.extend(u64::from(count).to_le_bytes());
+        position
+    }
+
+    pub fn inner(&mut self, slots: &[(u64, u64); 5], children: [Option<usize>; 6]) -> usize {
+        let position = self.head(1, slots);
+        for child in children {
+            self.offset(child);
+        }
+        position
+    }
+
+    /// The record, which ends the archive.
+    pub fn record(mut self, root: usize, count: u32) -> Vec<u8> {
+        self.offset(Some(root));
+        self.bytes.extend(count.to_le_bytes());
+        self.bytes
+    }
+}
+
+/// A root leaf with these keys, in the order given; each value is ten times its key.
+pub fn root_leaf(keys: &[u64]) -> Vec<u8> {
+    let slots: Vec<_> = keys.iter().map(|&key| (key, 10 * key)).collect();
+    let mut output = Output::default();
+    let root = output.leaf(keys.len() as u32, &slots);
+    output.record(root, keys.len() as u32)
+}
+
+/// So many nodes nested, each inner one over its first child only; keys ascend.
+pub fn nested(nodes: u32) -> Vec<u8> {
+    let mut output = Output::default();
+    let mut node = output.leaf(1, &[(0, 0)]);
+    for level in 1..u64::from(nodes) {
+        let slots = [1, 2, 3, 4, 5].map(|index| (5 * level + index, level));
+        node = output.inner(&slots, [Some(node), None, None, None, None, None]);
+    }
+    output.record(node, 5 * (nodes - 1) + 1)
+}
