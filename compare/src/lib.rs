@@ -3,6 +3,8 @@
 pub mod by_hand;
 pub mod cases;
 pub mod counts;
+#[cfg(feature = "ours")]
+pub mod lender;
 pub mod model;
 #[cfg(feature = "ours")]
 pub mod ours;

@@ -51,6 +51,7 @@ pub fn compare(
         let before = bytes.to_vec();
         proved::compare(bytes, &checked, &entries, &sought, random)?;
         proved::compare_ranges(bytes, &checked, &ranges, random)?;
+        proved::compare_columns(bytes, &checked, &sought, random)?;
         same("archive", ("before", &before[..]), ("after", bytes))?;
     }
     Ok(())
@@ -134,6 +135,8 @@ fn same<T: Debug + PartialEq>(what: &str, one: (&str, T), other: (&str, T)) -> R
 /// The proved code's answers against rkyv's, and against the model's where rkyv has none.
 #[cfg(feature = "ours")]
 mod proved {
+    use std::ops::Bound;
+
     use crate::rkyv_map::Accepted;
     use crate::trees::Random;
     use crate::{model, ours};
@@ -164,25 +167,24 @@ mod proved {
         let answer = ours::walk(bytes, &mut keys, &mut values);
         same(
             "walk",
-            ("rkyv", (count.map(|_| written), after)),
+            ("rkyv", (count.map(|count| (written, count)), after)),
             ("ours", (answer, (keys, values))),
         )?;
 
         let mut found = Vec::new();
         for &key in sought {
-            let value = match checked {
-                Ok(accepted) => Ok(accepted.get(key).map(|found| found.1)),
+            let entry = match checked {
+                Ok(accepted) => Ok(accepted.get(key)),
                 Err(number) => Err(*number),
             };
-            let after = value.ok().flatten().unwrap_or(BEFORE);
-            let mut place = BEFORE;
-            let answer = ours::lookup_into(bytes, key, &mut place);
-            same(
-                &format!("lookup of {key}"),
-                ("rkyv", (value.map(|value| value.is_some()), after)),
-                ("ours", (answer, place)),
-            )?;
-            found.push(after);
+            let what = format!("lookup of {key}");
+            same(&what, ("rkyv", entry), ("ours", ours::lookup(bytes, key)))?;
+            let entry = entry.ok().flatten();
+            let part = entry.map_or(&bytes[..0], |(_, _, position)| &bytes[position..][..8]);
+            let what = format!("the bytes of {key}");
+            let answer = ours::lookup_bytes(bytes, key);
+            same(&what, ("rkyv", part), ("ours", answer))?;
+            found.push(entry.map_or(BEFORE, |entry| entry.1));
         }
 
         // As many places as keys, or fewer, or more: a key without a place is not looked up.
@@ -220,6 +222,47 @@ mod proved {
             let answer = ours::range(bytes, lower, upper, &mut keys, &mut values);
             same(
                 &format!("range from {lower:?} to {upper:?}"),
+                (source, (numbers, after)),
+                ("ours", (answer, (keys, values))),
+            )?;
+        }
+        Ok(())
+    }
+
+    /// Column queries on any archive, as ranges between the keys of their ends; 18 comes after what certify refuses.
+    pub fn compare_columns(
+        bytes: &[u8],
+        checked: &Result<Accepted, u8>,
+        sought: &[u64],
+        random: &mut Random,
+    ) -> Result<(), String> {
+        let certified = model::certify(bytes);
+        for &key in sought {
+            let examination = (key >> 40) as u32 + (u32::from(random.one_in(16)) << 24);
+            let eye = random.pick(&[(key >> 39) as u8 & 1, 0, 1, 2]);
+            let a = (key >> 31) as i8;
+            let any = random.number() as i8;
+            let b = random.pick(&[a, a.wrapping_add(1), i8::MAX, -1, any]);
+            let from = u64::from(examination) << 40 | u64::from(eye) << 39;
+            let end = |x: i8| from | u64::from(x as u8) << 31;
+            let (lower, upper) = (
+                Bound::Included(end(a)),
+                Bound::Included(end(b) | 0x7fff_ffff),
+            );
+            let fits = match examination < 1 << 24 && eye < 2 {
+                true => certified,
+                false => certified.and(Err(18)),
+            };
+            let (source, entries) = match (checked, fits) {
+                (Ok(accepted), Ok(_)) => matching(accepted, lower, upper),
+                _ => ("model", Vec::new()),
+            };
+            let (mut keys, mut values) = lent(&entries, random);
+            let (written, after) = written(&entries, &keys, &values);
+            let numbers = fits.map(|_| (written, entries.len() as u64));
+            let answer = ours::column(bytes, examination, eye, a..=b, &mut keys, &mut values);
+            same(
+                &format!("column of {examination}, {eye}, from {a} to {b}"),
                 (source, (numbers, after)),
                 ("ours", (answer, (keys, values))),
             )?;

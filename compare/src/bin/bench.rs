@@ -109,7 +109,9 @@ fn measure(entries: usize) {
             entries,
             proved!(|lent: &mut Lent| {
                 let bytes = black_box(archive.bytes());
-                ours::walk(bytes, &mut lent.keys, &mut lent.values).unwrap() as usize
+                ours::walk(bytes, &mut lent.keys, &mut lent.values)
+                    .unwrap()
+                    .0 as usize
             }),
             |lent| visit(accepted(archive).map(), lent),
         ),
