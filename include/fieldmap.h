@@ -1,0 +1,140 @@
+/*
+ * The archived field map: rkyv 0.8.18's B-tree map with 64-bit keys and values, as proved code.
+ *
+ * The functions are those of the static library libexports.a, for x86-64 Linux. They need no other library, keep no state and allocate nothing.
+ *
+ * How arguments pass. A list passes as a pointer to its first element and the number of its elements. Where that number is 0 the pointer is not
+ * followed, but must not be null: pass the address of anything that is aligned as the elements are. A number that a function stores passes as
+ * a pointer to it, which must not be null. No two of the pointers of a call may lead to the same memory, unless both are only read. The
+ * pointers to 64-bit numbers must be aligned to 8; an archive may stand at any address.
+ *
+ * What a function answers. A number below 2^32, or where it refuses FIELDMAP_REFUSED plus the refusal's number, 1 to 18. What the answer has no
+ * room for is stored through the pointers that come last. A refused call writes nothing. No other demand is made on what is passed: any
+ * bytes, lists, positions and lengths get an answer.
+ */
+#ifndef FIELDMAP_H
+#define FIELDMAP_H
+
+#include <stddef.h>
+#include <stdint.h>
+
+#ifdef __cplusplus
+extern "C" {
+#endif
+
+/* The answer of a refused call is this and the number of the refusal. */
+#define FIELDMAP_REFUSED UINT64_C(0x100000000)
+
+/* The refusals, in checking order. */
+enum {
+    FIELDMAP_ARCHIVE_TOO_LONG = 1,                /* the archive is longer than 1,048,576 bytes */
+    FIELDMAP_INVALID_SUBTREE_POINTER = 2,         /* the record or a node leaves its range */
+    FIELDMAP_UNALIGNED_POINTER = 3,               /* the record or a node is not on its alignment */
+    FIELDMAP_INVALID_KIND = 4,                    /* a node's kind byte is neither 0 nor 1 */
+    FIELDMAP_EXCEEDED_MAXIMUM_SUBTREE_DEPTH = 5,  /* more than 14 nodes are nested */
+    FIELDMAP_INVALID_LENGTH = 6,                  /* a leaf's count is above 5 */
+    FIELDMAP_ENTRIES_LENGTH_MISMATCH = 7,         /* the entries differ from the recorded count */
+    FIELDMAP_HOLLOW_NODE = 8,                     /* a leaf is empty or an inner node has no first child */
+    FIELDMAP_KEYS_NOT_ASCENDING = 9,              /* a key is not above the one before */
+    FIELDMAP_ITERATOR_LENGTH_MISMATCH = 10,       /* build: there are not as many values as keys */
+    FIELDMAP_TOO_MANY_ENTRIES = 11,               /* build: more than 40,000 entries */
+    FIELDMAP_GIVEN_KEYS_NOT_ASCENDING = 12,       /* build: the keys do not strictly ascend */
+    FIELDMAP_HEADER_TOO_LONG = 13,                /* build: the header is longer than 4,096 bytes */
+    FIELDMAP_OUTPUT_TOO_SHORT = 14,               /* build: header, padding and archive are longer than the output */
+    FIELDMAP_ISIZE_OVERFLOW = 15,                 /* a distance does not fit 64 bits signed */
+    FIELDMAP_OFFSET_OVERFLOW = 16,                /* an offset does not fit 32 bits signed */
+    FIELDMAP_INVALID_ALIGNMENT = 17,              /* not 1, 2, 4, 8, 16 or 32, or the next position is too large */
+    FIELDMAP_KEY_FIELD_OVERFLOW = 18              /* an examination, an eye or a presentation does not fit its field */
+};
+
+/* The kinds of a bound. */
+enum {
+    FIELDMAP_INCLUDED = 0,
+    FIELDMAP_EXCLUDED = 1,
+    FIELDMAP_UNBOUNDED = 2 /* any other number means the same; the key is not read */
+};
+
+/* The recorded count of an archive that rkyv's check accepts, or the first fault of 1 to 7. */
+uint64_t fieldmap_check(const uint8_t *archive, size_t archive_len);
+
+/* The recorded count of an accepted archive whose keys strictly ascend and that has no hollow node, or the first fault of 1 to 9. */
+uint64_t fieldmap_certify(const uint8_t *archive, size_t archive_len);
+
+/*
+ * Each reader below runs the check first, range and column certification, on every call.
+ */
+
+/*
+ * Looks up a key. Where an entry has it, the answer is 1, and its value and the position of the value's first byte are stored. Where none has,
+ * the answer is 0, and nothing is stored.
+ */
+uint64_t fieldmap_lookup(const uint8_t *archive, size_t archive_len, uint64_t key, uint64_t *value, uint64_t *position);
+
+/*
+ * The eight bytes of a key's value, as a part of the archive: the answer is the part's length, 8, and the position where it starts is stored.
+ * Where no entry has the key, or the archive is refused, the part is empty: the answer is 0, and nothing is stored.
+ */
+uint64_t fieldmap_lookup_bytes(const uint8_t *archive, size_t archive_len, uint64_t key, uint64_t *start);
+
+/*
+ * Looks up keys after one check. The value of a key that is found goes to the place of its key in the values; other places keep what they hold,
+ * and keys beyond the values' places are not looked up. The number of keys found.
+ */
+uint64_t fieldmap_lookup_many(
+    const uint8_t *archive, size_t archive_len, const uint64_t *keys, size_t keys_len, uint64_t *values, size_t values_len);
+
+/*
+ * Writes keys and values in the order of the walk until the shorter list is full; other places keep what they hold. The number written; the
+ * recorded count is stored.
+ */
+uint64_t fieldmap_walk(
+    const uint8_t *archive, size_t archive_len, uint64_t *keys, size_t keys_len, uint64_t *values, size_t values_len, uint64_t *count);
+
+/*
+ * Writes keys and values of the entries of a certified archive that meet both bounds, as a walk does. The number written; the number of entries
+ * that match is stored. Where the bounds cross, nothing matches.
+ */
+uint64_t fieldmap_range(
+    const uint8_t *archive, size_t archive_len, uint8_t lower_kind, uint64_t lower, uint8_t upper_kind, uint64_t upper,
+    uint64_t *keys, size_t keys_len, uint64_t *values, size_t values_len, uint64_t *matching);
+
+/* The range of a column query: the points of one eye of one examination with x from a to b, both included. 18 comes after 1 to 9. */
+uint64_t fieldmap_column(
+    const uint8_t *archive, size_t archive_len, uint32_t examination, uint8_t eye, int8_t a, int8_t b,
+    uint64_t *keys, size_t keys_len, uint64_t *values, size_t values_len, uint64_t *matching);
+
+/*
+ * Writes the given entries as an archive behind the first `header` bytes of the output, which stay, as the bytes past the archive do. The
+ * archive's end, or the first of 10 to 14. A reader takes the output up to that end.
+ */
+uint64_t fieldmap_build(
+    uint8_t *out, size_t out_len, size_t header, const uint64_t *keys, size_t keys_len, const uint64_t *values, size_t values_len);
+
+/* The parts answer 0 and store what they give. */
+
+/* The signed difference of two positions, or 15. */
+uint64_t fieldmap_signed_offset(uint64_t from, uint64_t to, int64_t *offset);
+
+/* The 32-bit offset from a field to a position, or 15, or 16. */
+uint64_t fieldmap_offset32(uint64_t from, uint64_t to, int32_t *offset);
+
+/* The offset that marks an absent pointer at a position, or 15. */
+uint64_t fieldmap_absent_offset(uint64_t at, int32_t *offset);
+
+/* The next position on an alignment and the number of zeros before it, or 17. */
+uint64_t fieldmap_align(uint64_t pos, uint64_t alignment, uint64_t *next, uint64_t *zeros);
+
+/*
+ * The key of an examination's fields, stored where the answer is 0, or 18. The examination has 24 bits, the eye is 0 for the right one and 1
+ * for the left, x and y are in degrees, the presentation has 23 bits.
+ */
+uint64_t fieldmap_pack(uint32_t examination, uint8_t eye, int8_t x, int8_t y, uint32_t presentation, uint64_t *key);
+
+/* Stores the fields of a key. Every key has them, so there is no answer. */
+void fieldmap_unpack(uint64_t key, uint32_t *examination, uint8_t *eye, int8_t *x, int8_t *y, uint32_t *presentation);
+
+#ifdef __cplusplus
+}
+#endif
+
+#endif
