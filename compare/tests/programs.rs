@@ -1,4 +1,4 @@
-//! The programs `compare`, `answers`, `make_examples` and, with the feature `ours`, `builds`.
+//! The programs `compare`, `answers`, `make_examples` and, with the feature `ours`, `builds` and `guarded`.
 
 use std::path::Path;
 use std::process::{Command, Output};
@@ -37,6 +37,17 @@ fn built_archives() {
         .find(|line| line.starts_with("archives compared"));
     let built = built.unwrap().split_whitespace().last();
     assert_eq!(built, Some("480"), "{text}");
+}
+
+/// No call reads or writes outside what it is lent, beside pages that fault and in allocations.
+#[cfg(feature = "ours")]
+#[test]
+fn guarded_archives() {
+    for arguments in [&["2000"][..], &["300", "0", "heap"]] {
+        let output = run(env!("CARGO_BIN_EXE_guarded"), arguments);
+        let text = String::from_utf8(output.stdout).unwrap();
+        assert!(output.status.success(), "{text}");
+    }
 }
 
 /// The sample for the gate is small, ends as it should, and has every refusal and every kind of line.

@@ -20,9 +20,9 @@ stored f (gives a) x = f a
 stored f (refuses r) x = x
 
 -- Of a lookup, 1 for an entry and 0 for none.
-abbrev pub whether : Found → ℕ
-whether (found e) = 1
-whether nothing = 0
+abbrev pub foundFlag : Found → ℕ
+foundFlag (found e) = 1
+foundFlag nothing = 0
 
 -- How many bytes the value's part of the archive has: eight, or none where there is no entry or the archive is refused.
 abbrev pub partLength : Answer Found → ℕ
@@ -37,29 +37,29 @@ storedFound f (gives nothing) x = x
 storedFound f (refuses r) x = x
 
 -- The parts of what is given, by name.
-abbrev pub valueOf : Entry → ℕ
-valueOf e = e .value
+abbrev pub entryValue : Entry → ℕ
+entryValue e = e .value
 
-abbrev pub positionOf : Entry → ℕ
-positionOf e = e .position .0
+abbrev pub entryPosition : Entry → ℕ
+entryPosition e = e .position .0
 
-abbrev pub writtenOf : Walk → ℕ
-writtenOf w = w .written
+abbrev pub walkWritten : Walk → ℕ
+walkWritten w = w .written
 
-abbrev pub countOf : Walk → ℕ
-countOf w = w .count
+abbrev pub walkCount : Walk → ℕ
+walkCount w = w .count
 
-abbrev pub matchedOf : Matched → ℕ
-matchedOf m = m .written
+abbrev pub rangeWritten : Matched → ℕ
+rangeWritten m = m .written
 
-abbrev pub matchingOf : Matched → ℕ
-matchingOf m = m .matching
+abbrev pub rangeMatching : Matched → ℕ
+rangeMatching m = m .matching
 
-abbrev pub nextOf : Step → ℕ
-nextOf s = s .next
+abbrev pub stepNext : Step → ℕ
+stepNext s = s .next
 
-abbrev pub zerosOf : Step → ℕ
-zerosOf s = s .zeros
+abbrev pub stepZeros : Step → ℕ
+stepZeros s = s .zeros
 
 -- A bound by its kind and key.
 abbrev pub boundOf : ℕ → ℕ → Bound

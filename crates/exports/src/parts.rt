@@ -6,7 +6,7 @@ use fields::ser::writer::Aligned;
 ghost use mathlib.Core.Path.{_≡_};
 ghost use Rattle.format.specs.RelPtr.{signedOffset, storedOffset, absentOffset};
 ghost use Rattle.format.specs.Align.{alignStep};
-ghost use Rattle.exports.specs.Answers.{coded, stored, nextOf, zerosOf};
+ghost use Rattle.exports.specs.Answers.{coded, stored, stepNext, stepZeros};
 
 // The signed difference of two positions.
 #[no_mangle]
@@ -57,8 +57,8 @@ pub extern "C" fn fieldmap_absent_offset(at: u64, offset: &mut i32) -> u64
 #[no_mangle]
 pub extern "C" fn fieldmap_align(pos: u64, alignment: u64, next: &mut u64, zeros: &mut u64) -> u64
     ensures answer { λ r. ⌜ r ≡ coded (λ s. 0) (alignStep pos alignment) ⌝ }
-    ensures next { λ r. ⌜ now (next .exit) ≡ stored nextOf (alignStep pos alignment) (now (next .entry)) ⌝ }
-    ensures zeros { λ r. ⌜ now (zeros .exit) ≡ stored zerosOf (alignStep pos alignment) (now (zeros .entry)) ⌝ }
+    ensures next { λ r. ⌜ now (next .exit) ≡ stored stepNext (alignStep pos alignment) (now (next .entry)) ⌝ }
+    ensures zeros { λ r. ⌜ now (zeros .exit) ≡ stored stepZeros (alignStep pos alignment) (now (zeros .entry)) ⌝ }
 {
     match fieldmap::align(pos, alignment) {
         Aligned::Refused(why) => refused(why),

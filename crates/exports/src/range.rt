@@ -5,7 +5,7 @@ use fieldmap::RangeAnswer;
 ghost use mathlib.Core.Path.{_≡_};
 ghost use Rattle.format.specs.Layout.{layout32, standard};
 ghost use Rattle.format.specs.Calls.{rangeCall, rangeKeys, rangeValues, columnCall, columnKeys, columnValues};
-ghost use Rattle.exports.specs.Answers.{coded, stored, boundOf, matchedOf, matchingOf};
+ghost use Rattle.exports.specs.Answers.{coded, stored, boundOf, rangeWritten, rangeMatching};
 
 // Writes keys and values of the entries that meet both bounds until the shorter list is full, and stores how many there are. The number written.
 #[no_mangle]
@@ -19,13 +19,13 @@ pub extern "C" fn fieldmap_range(
     values: &mut [u64],
     matching: &mut u64,
 ) -> u64
-    ensures answer { λ r. ⌜ r ≡ coded matchedOf
+    ensures answer { λ r. ⌜ r ≡ coded rangeWritten
         (rangeCall layout32 standard (now (archive .entry)) (boundOf «lower_kind» lower) (boundOf «upper_kind» upper) (now (keys .entry)) (now (values .entry))) ⌝ }
     ensures keys { λ r. ⌜ now (keys .exit)
         ≡ rangeKeys layout32 standard (now (archive .entry)) (boundOf «lower_kind» lower) (boundOf «upper_kind» upper) (now (keys .entry)) (now (values .entry)) ⌝ }
     ensures values { λ r. ⌜ now (values .exit)
         ≡ rangeValues layout32 standard (now (archive .entry)) (boundOf «lower_kind» lower) (boundOf «upper_kind» upper) (now (keys .entry)) (now (values .entry)) ⌝ }
-    ensures matching { λ r. ⌜ now (matching .exit) ≡ stored matchingOf
+    ensures matching { λ r. ⌜ now (matching .exit) ≡ stored rangeMatching
         (rangeCall layout32 standard (now (archive .entry)) (boundOf «lower_kind» lower) (boundOf «upper_kind» upper) (now (keys .entry)) (now (values .entry)))
         (now (matching .entry)) ⌝ }
 {
@@ -52,13 +52,13 @@ pub extern "C" fn fieldmap_column(
     values: &mut [u64],
     matching: &mut u64,
 ) -> u64
-    ensures answer { λ r. ⌜ r ≡ coded matchedOf
+    ensures answer { λ r. ⌜ r ≡ coded rangeWritten
         (columnCall layout32 standard (now (archive .entry)) examination eye a b (now (keys .entry)) (now (values .entry))) ⌝ }
     ensures keys { λ r. ⌜ now (keys .exit)
         ≡ columnKeys layout32 standard (now (archive .entry)) examination eye a b (now (keys .entry)) (now (values .entry)) ⌝ }
     ensures values { λ r. ⌜ now (values .exit)
         ≡ columnValues layout32 standard (now (archive .entry)) examination eye a b (now (keys .entry)) (now (values .entry)) ⌝ }
-    ensures matching { λ r. ⌜ now (matching .exit) ≡ stored matchingOf
+    ensures matching { λ r. ⌜ now (matching .exit) ≡ stored rangeMatching
         (columnCall layout32 standard (now (archive .entry)) examination eye a b (now (keys .entry)) (now (values .entry)))
         (now (matching .entry)) ⌝ }
 {

@@ -9,7 +9,7 @@ ghost use Rattle.format.specs.Layout.{layout32, standard};
 ghost use Rattle.format.specs.Check.{counted, checkArchive};
 ghost use Rattle.format.specs.Certify.{certify};
 ghost use Rattle.format.specs.Calls.{lookupCall, bytesCall, walkCall, walkKeys, walkValues};
-ghost use Rattle.exports.specs.Answers.{coded, stored, whether, partLength, storedFound, valueOf, positionOf, writtenOf, countOf};
+ghost use Rattle.exports.specs.Answers.{coded, stored, foundFlag, partLength, storedFound, entryValue, entryPosition, walkWritten, walkCount};
 
 // The recorded count, or the first fault of 1 to 7.
 #[no_mangle]
@@ -35,10 +35,10 @@ pub extern "C" fn fieldmap_lookup(
     value: &mut u64,
     position: &mut u64,
 ) -> u64
-    ensures answer { λ r. ⌜ r ≡ coded whether (lookupCall layout32 standard (now (archive .entry)) key) ⌝ }
-    ensures value { λ r. ⌜ now (value .exit) ≡ storedFound valueOf (lookupCall layout32 standard (now (archive .entry)) key) (now (value .entry)) ⌝ }
+    ensures answer { λ r. ⌜ r ≡ coded foundFlag (lookupCall layout32 standard (now (archive .entry)) key) ⌝ }
+    ensures value { λ r. ⌜ now (value .exit) ≡ storedFound entryValue (lookupCall layout32 standard (now (archive .entry)) key) (now (value .entry)) ⌝ }
     ensures position { λ r. ⌜ now (position .exit)
-        ≡ storedFound positionOf (lookupCall layout32 standard (now (archive .entry)) key) (now (position .entry)) ⌝ }
+        ≡ storedFound entryPosition (lookupCall layout32 standard (now (archive .entry)) key) (now (position .entry)) ⌝ }
 {
     match fieldmap::lookup(archive, key) {
         LookupAnswer::Refused(why) => refused(why),
@@ -57,7 +57,7 @@ pub extern "C" fn fieldmap_lookup(
 pub extern "C" fn fieldmap_lookup_bytes(archive: &[u8], key: u64, start: &mut u64) -> u64
     ensures answer { λ r. ⌜ r ≡ partLength (lookupCall layout32 standard (now (archive .entry)) key) ⌝ }
     ensures start { λ r. ⌜ now (start .exit)
-        ≡ storedFound positionOf (lookupCall layout32 standard (now (archive .entry)) key) (now (start .entry)) ⌝ }
+        ≡ storedFound entryPosition (lookupCall layout32 standard (now (archive .entry)) key) (now (start .entry)) ⌝ }
     ensures part { λ r. ⌜ take r (drop (now (start .exit)) (now (archive .entry))) ≡ bytesCall layout32 standard (now (archive .entry)) key ⌝ }
 {
     match fieldmap::lookup(archive, key) {
@@ -79,11 +79,11 @@ pub extern "C" fn fieldmap_walk(
     count: &mut u64,
 ) -> u64
     ensures answer { λ r. ⌜ r
-        ≡ coded writtenOf (walkCall layout32 standard (now (archive .entry)) (now (keys .entry)) (now (values .entry))) ⌝ }
+        ≡ coded walkWritten (walkCall layout32 standard (now (archive .entry)) (now (keys .entry)) (now (values .entry))) ⌝ }
     ensures keys { λ r. ⌜ now (keys .exit) ≡ walkKeys layout32 standard (now (archive .entry)) (now (keys .entry)) (now (values .entry)) ⌝ }
     ensures values { λ r. ⌜ now (values .exit) ≡ walkValues layout32 standard (now (archive .entry)) (now (keys .entry)) (now (values .entry)) ⌝ }
     ensures count { λ r. ⌜ now (count .exit)
-        ≡ stored countOf (walkCall layout32 standard (now (archive .entry)) (now (keys .entry)) (now (values .entry))) (now (count .entry)) ⌝ }
+        ≡ stored walkCount (walkCall layout32 standard (now (archive .entry)) (now (keys .entry)) (now (values .entry))) (now (count .entry)) ⌝ }
 {
     match fieldmap::walk(archive, keys, values) {
         WalkAnswer::Refused(why) => refused(why),

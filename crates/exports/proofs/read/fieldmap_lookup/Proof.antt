@@ -2,22 +2,22 @@
 use mathlib.Core.Path.{_∙_, sym, ap}
 use borrow.Author.Needs.{needs}
 use Rattle.fieldmap.specs.Answers.{lookupOf}
-use Rattle.exports.specs.Answers.{whether, valueOf, positionOf}
+use Rattle.exports.specs.Answers.{foundFlag, entryValue, entryPosition}
 use Rattle.exports.proofs.Given.{code-given, code-refused, found-stored, nothing-stored, refused-stored}
 use Rattle.exports.proofs.read.fieldmap_lookup.Statement.{statement}
 use Rattle.exports.proofs.read.fieldmap_lookup.Tie as tie
 
 returns : tie.Need-returns
 returns c = let e = sym (c .before .before .before .before .lookup .ensures) ∙ ap lookupOf (c .before .before .why .given .1) in
-    (code-refused whether e (c .refused .ensures), (refused-stored valueOf _ e, refused-stored positionOf _ e))
+    (code-refused foundFlag e (c .refused .ensures), (refused-stored entryValue _ e, refused-stored entryPosition _ e))
 
 returns-2 : tie.Need-returns-2
 returns-2 c = let e = sym (c .before .before .lookup .ensures) ∙ ap lookupOf (c .enum-told .given .1) in
-    (code-given whether e, (nothing-stored valueOf _ e, nothing-stored positionOf _ e))
+    (code-given foundFlag e, (nothing-stored entryValue _ e, nothing-stored entryPosition _ e))
 
 returns-3 : tie.Need-returns-3
 returns-3 c = let e = sym (c .before .before .before .lookup .ensures) ∙ ap lookupOf (c .before .e .given .1) in
-    (code-given whether e, (found-stored valueOf _ e, found-stored positionOf _ e))
+    (code-given foundFlag e, (found-stored entryValue _ e, found-stored entryPosition _ e))
 
 pub fieldmap-lookup-spec : {M : Type 1} → statement M
 fieldmap-lookup-spec =

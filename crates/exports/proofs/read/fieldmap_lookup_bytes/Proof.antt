@@ -3,22 +3,22 @@ use mathlib.Core.Path.{_∙_, sym, ap}
 use borrow.Author.Needs.{needs}
 use Rattle.fieldmap.specs.Answers.{lookupOf}
 use Rattle.format.specs.Layout.{layout32, standard}
-use Rattle.exports.specs.Answers.{partLength, positionOf}
+use Rattle.exports.specs.Answers.{partLength, entryPosition}
 use Rattle.exports.proofs.Given.{found-stored, nothing-stored, refused-stored, found-part, nothing-part, refused-part}
 use Rattle.exports.proofs.read.fieldmap_lookup_bytes.Statement.{statement}
 use Rattle.exports.proofs.read.fieldmap_lookup_bytes.Tie as tie
 
 returns : tie.Need-returns
 returns c = let e = sym (c .before .before .lookup .ensures) ∙ ap lookupOf (c .enum-told .given .1) in
-    (sym (ap partLength e), (refused-stored positionOf _ e, sym (refused-part layout32 standard _ _ e)))
+    (sym (ap partLength e), (refused-stored entryPosition _ e, sym (refused-part layout32 standard _ _ e)))
 
 returns-2 : tie.Need-returns-2
 returns-2 c = let e = sym (c .before .before .lookup .ensures) ∙ ap lookupOf (c .enum-told2 .given .1) in
-    (sym (ap partLength e), (nothing-stored positionOf _ e, sym (nothing-part layout32 standard _ _ e)))
+    (sym (ap partLength e), (nothing-stored entryPosition _ e, sym (nothing-part layout32 standard _ _ e)))
 
 returns-3 : tie.Need-returns-3
 returns-3 c = let e = sym (c .before .before .before .lookup .ensures) ∙ ap lookupOf (c .before .e .given .1) in
-    (sym (ap partLength e), (found-stored positionOf _ e, sym (found-part layout32 standard _ _ e)))
+    (sym (ap partLength e), (found-stored entryPosition _ e, sym (found-part layout32 standard _ _ e)))
 
 pub fieldmap-lookup-bytes-spec : {M : Type 1} → statement M
 fieldmap-lookup-bytes-spec =
