@@ -1,7 +1,8 @@
 /*
  * The archived field map: rkyv 0.8.18's B-tree map with 64-bit keys and values, as proved code.
  *
- * The functions are those of the static library libexports.a, for x86-64 Linux. They need no other library, keep no state and allocate nothing.
+ * The functions are those of the static library libexports.a, for x86-64 Linux. They call nothing but memcpy and memset, keep no state and
+ * allocate nothing.
  *
  * How arguments pass. A list passes as a pointer to its first element and the number of its elements. Where that number is 0 the pointer is not
  * followed, but must not be null: pass the address of anything that is aligned as the elements are. A number that a function stores passes as
