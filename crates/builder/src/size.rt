@@ -1,4 +1,5 @@
 // The archive's length by the number of entries, with no walk over them.
+use fields::least::least;
 use fields::ser::writer::Aligned;
 use fields::ser::writer::align;
 use format::Layout;
@@ -6,15 +7,9 @@ use serialize::height::depth_of;
 use serialize::height::power_of_6;
 ghost use mathlib.Core.Path.{_≡_};
 ghost use mathlib.Core.Bool.{true};
-ghost use Prim.Native.Nat.{min, _+_, _-_, _/_, _^_, _<_, _≤_};
+ghost use Prim.Native.Nat.{_+_, _-_, _/_, _^_, _<_, _≤_};
 ghost use Rattle.format.specs.Align.{isAlignment, zerosTo};
 ghost use Rattle.builder.specs.Size.{weight, endOf};
-
-fn least(a: usize, b: usize) -> usize
-    ensures { λ r. ⌜ r ≡ min a b ⌝ }
-{
-    if a < b { a } else { b }
-}
 
 // As many as t entries need where each takes up to `each`.
 fn needed(t: usize, each: usize) -> usize

@@ -1,12 +1,13 @@
 // Many lookups after one check.
 use crate::codes::refused;
 use btree::node::pointed;
+use fields::least::least;
 use format::CheckAnswer;
 use format::Found;
 use format::Layout;
 use format::Position;
 ghost use mathlib.Core.Path.{_≡_};
-ghost use Prim.Native.Nat.{_<_, _≤_, min};
+ghost use Prim.Native.Nat.{_<_, _≤_};
 ghost use lib.ListN.{length, getD};
 ghost use Rattle.format.specs.Layout.{layout32, standard, nested};
 ghost use Rattle.format.specs.Lookup.{lookupAt};
@@ -37,19 +38,13 @@ fn look_up_at(
     }
 }
 
-fn shorter(a: usize, b: usize) -> usize
-    ensures { λ r. ⌜ r ≡ min a b ⌝ }
-{
-    if a < b { a } else { b }
-}
-
 // Looks up every key that has a place, from the root on. The number of keys found.
 fn look_up_all(archive: &[u8], root: Position, keys: &[u64], values: &mut [u64]) -> usize
     requires { ⌜ Node layout32 standard (now archive) (root .0) ⌝ }
     ensures { λ r. ⌜ many (now (values .exit)) r
         ≡ allMany (λ k. lookupAt layout32 (now (archive .entry)) k (nested standard) (root .0)) (now (keys .entry)) (now (values .entry)) ⌝ }
 {
-    let n = shorter(keys.len(), values.len());
+    let n = least(keys.len(), values.len());
     let mut found = 0;
     let mut i = 0;
     while i < n {

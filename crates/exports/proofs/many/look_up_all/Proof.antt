@@ -19,15 +19,15 @@ Inv-loop archive root keys values₀ n found₀ i₀ values found i =
 abbrev μ-loop : tie.MeasureT-loop
 μ-loop archive root keys values₀ n found₀ i₀ values found i = n - i
 
-shorter-requires : tie.Need-shorter-requires Inv-loop μ-loop
-shorter-requires c κs = search needs
+least-requires : tie.Need-least-requires Inv-loop μ-loop
+least-requires c κs = search needs
 
 loop-holds : tie.Need-loop-holds Inv-loop μ-loop
 loop-holds c = (search needs, search needs, first-none _ _ _)
 
 look-up-at-requires : tie.Need-look-up-at-requires Inv-loop μ-loop
 look-up-at-requires c κs = let head = c .before .before in
-    (head .before .before .before .before .before .pre, omega (arith, c .before .loop-test .taken, head .before .shorter .ensures), omega (arith, c .before .loop-test .taken, head .before .shorter .ensures, head .loop .inv .1), found-most _ _ _ _ _ _ (head .loop .inv .2))
+    (head .before .before .before .before .before .pre, omega (arith, c .before .loop-test .taken, head .before .least .ensures), omega (arith, c .before .loop-test .taken, head .before .least .ensures, head .loop .inv .1), found-most _ _ _ _ _ _ (head .loop .inv .2))
 
 add-i : tie.Need-add-i Inv-loop μ-loop
 add-i c = search needs
@@ -42,7 +42,7 @@ same-length : tie.Need-same-length Inv-loop μ-loop
 same-length c = search needs
 
 returns : tie.Need-returns Inv-loop μ-loop
-returns c = first-all _ _ _ _ _ _ (c .before .loop .inv .2) _ (c .before .before .shorter .ensures) (c .before .loop .inv .0) (c .loop-test .left)
+returns c = first-all _ _ _ _ _ _ (c .before .loop .inv .2) _ (c .before .before .least .ensures) (c .before .loop .inv .0) (c .loop-test .left)
 
 pub look-up-all-spec : {M : Type 1} → statement M
 look-up-all-spec =
@@ -50,7 +50,7 @@ look-up-all-spec =
     (tie.spec
     Inv-loop
     μ-loop
-    shorter-requires
+    least-requires
     loop-holds
     look-up-at-requires
     add-i
