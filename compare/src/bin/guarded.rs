@@ -83,7 +83,10 @@ fn main() -> ExitCode {
             return ExitCode::FAILURE;
         }
     }
-    print!("{counts}");
+    let (archives, certified) = counts.all();
+    println!("archives                            {archives:9}");
+    println!("certified                           {certified:9}");
+    counts.print(1..=9);
     println!("seeds {first} to {}, in {places:?}", first + number);
     ExitCode::SUCCESS
 }
