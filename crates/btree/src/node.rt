@@ -27,7 +27,7 @@ pub fn pointed(archive: &[u8], field: Position) -> Position
 }
 
 // The child that field i of an inner node leads to; the field after the lesser children's is the greater child's.
-pub(crate) fn child_at(archive: &[u8], pos: Position, i: usize) -> Child
+pub fn child_at(archive: &[u8], pos: Position, i: usize) -> Child
     requires { ⌜ InnerNode layout32 (now archive) (pos .0) × (i ≤ layout32 .entries) ⌝ }
     ensures { λ r. ⌜ r ≡ childAt layout32 (now (archive .entry)) (child layout32 (pos .0) i) ⌝ }
 {
@@ -53,7 +53,7 @@ pub(crate) fn slot(archive: &[u8], pos: Position, i: usize) -> Entry
 }
 
 // Writes slot i at index `at` of both lists, where both have room.
-pub(crate) fn visit_key_value_raw(
+pub fn visit_key_value_raw(
     archive: &[u8],
     pos: Position,
     i: usize,

@@ -156,7 +156,7 @@ pub fn range(
             }
             let record = Position(archive.len() - Layout::RECORD);
             let root = pointed(archive, record);
-            let found = btree::iter::range_with(archive, root, lower, upper, keys, values);
+            let found = ranges::iter::range_with(archive, root, lower, upper, keys, values);
             RangeAnswer::Matched(found.written, found.matching)
         }
     }

@@ -1,8 +1,8 @@
--- `btree::iter::range_with` meets its contract. Assumes nothing.
-use Rattle.btree.proofs.Ranges.{range-lists, range-matching, node-fits}
+-- `ranges::iter::range_with` meets its contract. Assumes nothing.
+use Rattle.ranges.proofs.Ranges.{range-lists, range-matching, node-fits}
 use borrow.Author.Needs.{needs}
-use Rattle.btree.proofs.iter.range_with.Statement.{statement}
-use Rattle.btree.proofs.iter.range_with.Tie as tie
+use Rattle.ranges.proofs.iter.range_with.Statement.{statement}
+use Rattle.ranges.proofs.iter.range_with.Tie as tie
 
 range-raw-requires : tie.Need-range-raw-requires
 range-raw-requires c κs = (search, (search, search node-fits))

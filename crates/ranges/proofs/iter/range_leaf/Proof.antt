@@ -1,4 +1,4 @@
--- `btree::iter::range_leaf` meets its contract. Assumes nothing.
+-- `ranges::iter::range_leaf` meets its contract. Assumes nothing.
 use mathlib.Core.Path.{_≡_}
 use mathlib.Core.Bool.{true}
 use Prim.Native.Nat.{_-_, _≤_}
@@ -11,10 +11,10 @@ use Rattle.format.specs.Entries.{slots}
 use Rattle.format.specs.Range.{matches}
 use Rattle.format.specs.Certify.{Ascending}
 use Rattle.format.specs.Laws.Ranged.{sink, ranged}
 use Rattle.btree.proofs.Runs.{leaf-done}
-use Rattle.btree.proofs.Ranges.{slot-matches, slots-ascend, slots-rest, leaf-pass, leaf-stop, leaf-take, leaf-fits}
-use Rattle.btree.proofs.iter.range_leaf.Statement.{statement}
-use Rattle.btree.proofs.iter.range_leaf.Tie as tie
+use Rattle.ranges.proofs.Ranges.{slot-matches, slots-ascend, slots-rest, leaf-pass, leaf-stop, leaf-take, leaf-fits}
+use Rattle.ranges.proofs.iter.range_leaf.Statement.{statement}
+use Rattle.ranges.proofs.iter.range_leaf.Tie as tie
 
 abbrev Inv-loop : tie.InvT-loop
 Inv-loop archive pos lower upper keys₀ values₀ p n done₀ i₀ keys values done i =

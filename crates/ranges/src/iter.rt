@@ -1,6 +1,6 @@
 // The range of an archive whose keys ascend (rkyv's src/collections/btree/map/iter.rs), by recursion down the nodes that the bounds can meet.
-use crate::node::child_at;
-use crate::node::visit_key_value_raw;
+use btree::node::child_at;
+use btree::node::visit_key_value_raw;
 use fields::primitive::u32_at;
 use fields::primitive::u64_at;
 use format::Bound;

@@ -1,7 +1,7 @@
--- `btree::iter::range_slot` meets its contract. Assumes nothing.
+-- `ranges::iter::range_slot` meets its contract. Assumes nothing.
 use borrow.Author.Needs.{needs}
-use Rattle.btree.proofs.iter.range_slot.Statement.{statement}
-use Rattle.btree.proofs.iter.range_slot.Tie as tie
+use Rattle.ranges.proofs.iter.range_slot.Statement.{statement}
+use Rattle.ranges.proofs.iter.range_slot.Tie as tie
 
 returns : tie.Need-returns
 returns c = cc

@@ -1,4 +1,4 @@
--- `btree::iter::range_raw` meets its contract: the node's position falls. Assumes nothing.
+-- `ranges::iter::range_raw` meets its contract: the node's position falls. Assumes nothing.
 use Prim.Native.Nat.{ℕ, _+_, _-_, _<_, _≤_}
 use mathlib.Core.Path.{_≡_, refl, ap, _∙_}
 use mathlib.Core.Bool.{true}
@@ -12,22 +12,22 @@ use Rattle.format.specs.Certify.{Ascending}
 use Rattle.format.specs.Range.{matches}
 use Rattle.format.specs.Laws.Node.{as-leaf, as-inner, node-room, child-falls}
 use Rattle.format.specs.Laws.Ranged.{sink, ranged}
 use Rattle.btree.proofs.Runs.{leaf-run, child-run, child-skipped, inner-done}
-use Rattle.btree.proofs.Ranges.{rest, at-child, leaf-ascends, inner-ascends, rest-ascends, child-ascends, last-ascends, slot-matches, whole-leaf-fits, inner-pass, inner-stop, inner-take, child-fits, last-fits, slot-fits}
+use Rattle.ranges.proofs.Ranges.{rest, at-child, leaf-ascends, inner-ascends, rest-ascends, child-ascends, last-ascends, slot-matches, whole-leaf-fits, inner-pass, inner-stop, inner-take, child-fits, last-fits, slot-fits}
 use borrow.Author.Needs.{needs}
 use borrow.Fn.Kinds.{In, Out}
 use borrow.Fn.PlainCycle.{Measures, is, falls, and}
-use Rattle.btree.proofs.iter.range_raw.Reads as range-raw
-use Rattle.btree.proofs.iter.range_raw.Kinds as kinds
-use Rattle.btree.proofs.iter.+range_raw.Lts-range_raw as lts
-use Rattle.btree.proofs.iter.key_is_past_upper.Reads as key-is-past-upper
-use Rattle.btree.proofs.iter.key_satisfies_lower.Reads as key-satisfies-lower
-use Rattle.btree.proofs.iter.range_leaf.Reads as range-leaf
-use Rattle.btree.proofs.iter.range_slot.Reads as range-slot
+use Rattle.ranges.proofs.iter.range_raw.Reads as range-raw
+use Rattle.ranges.proofs.iter.range_raw.Kinds as kinds
+use Rattle.ranges.proofs.iter.+range_raw.Lts-range_raw as lts
+use Rattle.ranges.proofs.iter.key_is_past_upper.Reads as key-is-past-upper
+use Rattle.ranges.proofs.iter.key_satisfies_lower.Reads as key-satisfies-lower
+use Rattle.ranges.proofs.iter.range_leaf.Reads as range-leaf
+use Rattle.ranges.proofs.iter.range_slot.Reads as range-slot
 use Rattle.btree.proofs.node.child_at.Reads as child-at
 use Rattle.fields.proofs.primitive.u64_at.Reads as u64-at
-use Rattle.btree.proofs.iter.+range_raw.{statement}
-use Rattle.btree.proofs.iter.+range_raw.Tie.{close}
+use Rattle.ranges.proofs.iter.+range_raw.{statement}
+use Rattle.ranges.proofs.iter.+range_raw.Tie.{close}
 
 abbrev μ : Measures 3 kinds.ps ℕ
 μ κs a = a .1 .0 .0

@@ -1,7 +1,7 @@
--- `btree::iter::key_satisfies_lower` meets its contract. Assumes nothing.
+-- `ranges::iter::key_satisfies_lower` meets its contract. Assumes nothing.
 use borrow.Author.Needs.{needs}
-use Rattle.btree.proofs.iter.key_satisfies_lower.Statement.{statement}
-use Rattle.btree.proofs.iter.key_satisfies_lower.Tie as tie
+use Rattle.ranges.proofs.iter.key_satisfies_lower.Statement.{statement}
+use Rattle.ranges.proofs.iter.key_satisfies_lower.Tie as tie
 
 returns : tie.Need-returns
 returns c = search needs

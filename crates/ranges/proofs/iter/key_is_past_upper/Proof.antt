@@ -1,8 +1,8 @@
--- `btree::iter::key_is_past_upper` meets its contract. Assumes nothing.
-use Rattle.btree.proofs.Ranges.{not-leb, not-ltb}
+-- `ranges::iter::key_is_past_upper` meets its contract. Assumes nothing.
+use Rattle.ranges.proofs.Ranges.{not-leb, not-ltb}
 use borrow.Author.Needs.{needs}
-use Rattle.btree.proofs.iter.key_is_past_upper.Statement.{statement}
-use Rattle.btree.proofs.iter.key_is_past_upper.Tie as tie
+use Rattle.ranges.proofs.iter.key_is_past_upper.Statement.{statement}
+use Rattle.ranges.proofs.iter.key_is_past_upper.Tie as tie
 
 returns : tie.Need-returns
 returns c = search needs

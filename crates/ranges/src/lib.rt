@@ -1,0 +1,2 @@
+// The range over an archive that certification has accepted.
+pub mod iter;
