@@ -1,16 +1,17 @@
 -- A range: the tests of a slot's key, what the loops over slots and children keep, and that the number matching fits. Assumes nothing.
 use mathlib.Core.Path.{_≡_, refl, sym, ap, _∙_}
-use mathlib.Core.Bool.{Bool, true, false, not}
+use mathlib.Core.Bool.{Bool, true, false}
 use mathlib.Core.List.{List, [], _∷_}
 use Prim.Native.Nat.{ℕ, _+_, _-_, _^_, _≤_, _<_}
 use native.Mathlib.Nat.{sub-zero}
 use native.Mathlib.Omega.{arith}
 use lib.ListN.{length, getD}
-use lib.Dec.{leb, ltb}
-use borrow.Author.Tests.{ltb-true, ltb-false, leb-true, leb-false, lt-ltb, le-ltb, le-leb, lt-leb, not-true, not-false}
+use lib.Dec.{leb}
+use borrow.Author.Tests.{le-leb, lt-leb}
 use Rattle.format.specs.declared.Entry.{Entry}
 use Rattle.format.specs.declared.Position.{Position}
 use Rattle.format.specs.declared.Bound.{Bound}
+use Rattle.format.specs.declared.Bound.the-variants.{Included}
 use Rattle.format.specs.declared.Child.{Child}
 use Rattle.format.specs.declared.Child.the-variants.{At}
 use Rattle.format.specs.Layout.{Layout, layout32, Limits, standard, nested}
@@ -18,30 +19,14 @@ use Rattle.format.specs.Bytes.{leAt}
 use Rattle.format.specs.Node.{child, keyAt, leafCount, slot}
 use Rattle.format.specs.Entries.{slots, listChildren, listAt}
 use Rattle.format.specs.Certify.{Ascending}
-use Rattle.format.specs.Range.{keyMeetsLower, keyMeetsUpper, meetsLower, meetsUpper, matches, select}
+use Rattle.format.specs.Range.{meetsLower, meetsUpper, matches, select}
 use Rattle.format.specs.Laws.Ascend.{Split, split}
 use Rattle.format.specs.Laws.Bounds.{node-few}
 use Rattle.format.specs.Laws.Children.{childAt, onChild, on-at}
-use Rattle.format.specs.Laws.Node.{Node}
+use Rattle.format.specs.Laws.Node.{Node, InnerNode, kind-leaf}
 use Rattle.format.specs.Laws.Ranged.{Sink, sink, taken, rangeStep, ranged, select-few, step-hit, all-ranged, runs-matching, runs-rise, pass-lower, stop-upper}
 use Rattle.format.specs.Laws.Written.{walked, runs-none, runs-cons, runs-append}
-use Rattle.btree.proofs.Runs.{slots-more, children-more, children-last, entries-leaf, entries-inner, leaf-step, inner-step}
-
--- ---- comparisons turned round
-
-pub not-leb : (a b : ℕ) → ltb b a ≡ not (leb a b)
-not-leb a b = go (leb a b) refl
-  where
-    go : (t : Bool) → leb a b ≡ t → ltb b a ≡ not (leb a b)
-    go true e = rw e (le-ltb b a (leb-true a b e))
-    go false e = rw e (lt-ltb b a (leb-false a b e))
-
-pub not-ltb : (a b : ℕ) → leb b a ≡ not (ltb a b)
-not-ltb a b = go (ltb a b) refl
-  where
-    go : (t : Bool) → ltb a b ≡ t → leb b a ≡ not (ltb a b)
-    go true e = rw e (lt-leb b a (ltb-true a b e))
-    go false e = rw e (le-leb b a (ltb-false a b e))
+use Rattle.btree.proofs.Runs.{slots-more, children-more, children-last, entries-leaf, entries-inner, leaf-step, inner-step, inner-done}
 
 module _ (L : Layout) (s : List ℕ) where
   -- What the lesser children and slots of the node at p give from i on, and the greater child.
@@ -52,8 +37,12 @@ module _ (L : Layout) (s : List ℕ) where
   abbrev pub at-child : Limits → ℕ → ℕ → List Entry
   at-child M p i = onChild [] (listAt L s (nested M)) (childAt L s (child L p i))
 
-  whole-rest : (M : Limits) (p : ℕ) → Node L M s p → (getD s p 0 ≡ 0 → ⊥) → rest M p 0 ≡ listAt L s (nested M) p
-  whole-rest M p v h = ap (λ (x : ℕ). listChildren L s (listAt L s (nested M)) p x 0) (sub-zero (L .entries)) ∙ sym (entries-inner L s M p v h)
+  -- An inner node's first byte is not a leaf's.
+  pub not-leaf : {p : ℕ} → InnerNode L s p → getD s p 0 ≡ 0 → ⊥
+  not-leaf {p} n h = let z : _≡_ {A = ℕ} 0 1 = cc (kind-leaf L s p h, n .is) in omega arith
+
+  whole-rest : (M : Limits) (p : ℕ) → Node L M s p → InnerNode L s p → rest M p 0 ≡ listAt L s (nested M) p
+  whole-rest M p v n = ap (λ (x : ℕ). listChildren L s (listAt L s (nested M)) p x 0) (sub-zero (L .entries)) ∙ sym (entries-inner L s M p v (not-leaf n))
 
   -- ---- parts of an ascending node ascend
 
@@ -61,7 +50,7 @@ module _ (L : Layout) (s : List ℕ) where
     pub leaf-ascends : getD s p 0 ≡ 0 → Ascending (listAt L s (nested M) p) → Ascending (slots L s p (leafCount L s p) 0)
     leaf-ascends h a = rw (entries-leaf L s M p v h) at a
 
-    pub inner-ascends : (getD s p 0 ≡ 0 → ⊥) → Ascending (listAt L s (nested M) p) → Ascending (rest M p 0)
+    pub inner-ascends : InnerNode L s p → Ascending (listAt L s (nested M) p) → Ascending (rest M p 0)
     inner-ascends h a = rw (whole-rest M p v h) a
 
   pub slots-ascend : (p n m : ℕ) → n ≡ m → Ascending (slots L s p m 0) → Ascending (slots L s p (n - 0) 0)
@@ -88,42 +77,41 @@ module _ (L : Layout) (s : List ℕ) where
           let c′ : r ≡ childAt L s (child L p i) = rw z c in
           rw (children-last L s (listAt L s (nested M)) p (L .entries) i h, on-at [] (listAt L s (nested M)) (childAt L s (child L p i)) q (sym c′ ∙ e)) at a
 
+  -- ---- a slot's key, which the code reads as k, against the ends of the range
+
+  module _ (p i k : ℕ) (e : k ≡ leAt 8 s (keyAt L p i)) where
+    pub slot-low : (least : ℕ) → k < least → meetsLower (Included least) (slot L s p i) ≡ false
+    unfolding slot
+    slot-low least h = rw (← e) (lt-leb least k h)
+
+    pub slot-past : (most : ℕ) → most < k → meetsUpper (Included most) (slot L s p i) ≡ false
+    unfolding slot
+    slot-past most h = rw (← e) (lt-leb k most h)
+
+    pub slot-matches : (least most : ℕ) → least ≤ k → k ≤ most → matches (Included least) (Included most) (slot L s p i) ≡ true
+    unfolding slot
+    slot-matches least most h l =
+        let a : meetsLower (Included least) (slot L s p i) ≡ true = rw (← e) (le-leb least k h) in
+        let b : meetsUpper (Included most) (slot L s p i) ≡ true = rw (← e) (le-leb k most l) in
+        rw (a, matches) b
+
   module _ (lower upper : Bound) where
-    -- ---- a slot's key: k is what the code reads, a and b what it says of the lower and of the upper bound
-
-    module _ (p i k : ℕ) (e : k ≡ leAt 8 s (keyAt L p i)) where
-      slot-lower : (a t : Bool) → a ≡ keyMeetsLower lower k → a ≡ t → meetsLower lower (slot L s p i) ≡ t
-      unfolding slot
-      slot-lower a t ea et = cc
-
-      slot-past : (b : Bool) → b ≡ not (keyMeetsUpper upper k) → b ≡ true → meetsUpper upper (slot L s p i) ≡ false
-      unfolding slot
-      slot-past b eb et = not-true _ (cc (eb, et, e))
-
-      slot-upper : (b : Bool) → b ≡ not (keyMeetsUpper upper k) → b ≡ false → meetsUpper upper (slot L s p i) ≡ true
-      unfolding slot
-      slot-upper b eb et = not-false _ (cc (eb, et, e))
-
-      pub slot-matches : (a b : Bool) → a ≡ keyMeetsLower lower k → a ≡ true → b ≡ not (keyMeetsUpper upper k) → b ≡ false → matches lower upper (slot L s p i) ≡ true
-      slot-matches a b ea ta eb tb = rw (slot-lower a true ea ta, matches) (slot-upper b eb tb)
-
     -- ---- the loop over a leaf's slots
 
-    module _ (p n i k : ℕ) (o : Sink) where
-      pub leaf-pass : (a : Bool) (g : Sink) → i < n → Ascending (slots L s p (n - i) i) → k ≡ leAt 8 s (keyAt L p i) → a ≡ keyMeetsLower lower k → a ≡ false
+    module _ (p n i : ℕ) (o : Sink) where
+      pub leaf-pass : (g : Sink) → i < n → Ascending (slots L s p (n - i) i) → meetsLower lower (slot L s p i) ≡ false
           → ranged lower upper (slots L s p (n - i) i) o ≡ g → ranged lower upper (slots L s p (n - (i + 1)) (i + 1)) o ≡ g
-      leaf-pass a g h asc e ea ta q =
+      leaf-pass g h asc f q =
           let m = slots-more L s p n i h in
-          sym (pass-lower lower upper [] (slot L s p i) (slots L s p (n - (i + 1)) (i + 1)) o (rw m at asc) (slot-lower p i k e a false ea ta)) ∙ (rw m at q)
+          sym (pass-lower lower upper [] (slot L s p i) (slots L s p (n - (i + 1)) (i + 1)) o (rw m at asc) f) ∙ (rw m at q)
 
-      pub leaf-stop : (m : ℕ) (b : Bool) (o₀ : Sink) → i < n → n ≡ m → Ascending (slots L s p (n - i) i) → k ≡ leAt 8 s (keyAt L p i)
-          → b ≡ not (keyMeetsUpper upper k) → b ≡ true
+      pub leaf-stop : (m : ℕ) (o₀ : Sink) → i < n → n ≡ m → Ascending (slots L s p (n - i) i) → meetsUpper upper (slot L s p i) ≡ false
           → ranged lower upper (slots L s p (n - i) i) o ≡ ranged lower upper (slots L s p (n - 0) 0) o₀
           → o ≡ ranged lower upper (slots L s p m 0) o₀
-      leaf-stop m b o₀ h en asc e eb tb q =
+      leaf-stop m o₀ h en asc f q =
           let m′ = slots-more L s p n i h in
           let z : n - 0 ≡ m = omega arith in
-          let stop = stop-upper lower upper [] (slot L s p i) (slots L s p (n - (i + 1)) (i + 1)) o (rw m′ at asc) (slot-past p i k e b eb tb) in
+          let stop = stop-upper lower upper [] (slot L s p i) (slots L s p (n - (i + 1)) (i + 1)) o (rw m′ at asc) f in
           cc (runs-none (rangeStep lower upper) o, stop, m′, z, q)
 
     module _ (p n i : ℕ) (o : Sink) (h : i < n) (m : matches lower upper (slot L s p i) ≡ true) where
@@ -147,12 +135,11 @@ module _ (L : Layout) (s : List ℕ) where
     -- ---- the loop over an inner node's lesser children and slots
 
     module _ (M : Limits) (p i : ℕ) (o : Sink) where
-      pub inner-pass : (k : ℕ) (a : Bool) (r : Sink) → i < L .entries → Ascending (rest M p i) → k ≡ leAt 8 s (keyAt L p i)
-          → a ≡ keyMeetsLower lower k → a ≡ false
+      pub inner-pass : (r : Sink) → i < L .entries → Ascending (rest M p i) → meetsLower lower (slot L s p i) ≡ false
           → ranged lower upper (rest M p i) o ≡ r → ranged lower upper (rest M p (i + 1)) o ≡ r
-      inner-pass k a r h asc e ea ta q =
+      inner-pass r h asc f q =
           let m = children-more L s (listAt L s (nested M)) p (L .entries) i h in
-          sym (pass-lower lower upper (at-child M p i) (slot L s p i) (rest M p (i + 1)) o (rw m at asc) (slot-lower p i k e a false ea ta)) ∙ (rw m at q)
+          sym (pass-lower lower upper (at-child M p i) (slot L s p i) (rest M p (i + 1)) o (rw m at asc) f) ∙ (rw m at q)
 
       pub inner-take : (o₁ o₂ r : Sink) → i < L .entries → o₁ ≡ ranged lower upper (at-child M p i) o → matches lower upper (slot L s p i) ≡ true
           → o₂ ≡ taken (slot L s p i) o₁
@@ -161,9 +148,14 @@ module _ (L : Layout) (s : List ℕ) where
           inner-step L s (rangeStep lower upper) (listAt L s (nested M)) p (L .entries) i o o₁ o₂ r h e₁ (e₂ ∙ sym (step-hit lower upper (slot L s p i) o₁ m)) q
 
       -- o₀ is the state before the node.
-      module _ (o₀ : Sink) (v : Node L M s p) (h : getD s p 0 ≡ 0 → ⊥) (q : ranged lower upper (rest M p i) o ≡ ranged lower upper (rest M p 0) o₀) where
+      module _ (o₀ : Sink) (v : Node L M s p) (h : InnerNode L s p) (q : ranged lower upper (rest M p i) o ≡ ranged lower upper (rest M p 0) o₀) where
         whole : ranged lower upper (rest M p i) o ≡ ranged lower upper (listAt L s (nested M) p) o₀
         whole = q ∙ ap (λ (x : List Entry). ranged lower upper x o₀) (whole-rest M p v h)
+
+        -- After the loop: the greater child, which takes o to o₁.
+        pub inner-end : (o₁ : Sink) → L .entries ≤ i → i ≤ L .entries → o₁ ≡ ranged lower upper (at-child M p (L .entries)) o
+            → o₁ ≡ ranged lower upper (listAt L s (nested M) p) o₀
+        inner-end o₁ l k t = inner-done L s (rangeStep lower upper) M p i o o₁ o₀ v (not-leaf h) l k t q
 
         -- With child i done, what is left.
         after-child : i < L .entries
@@ -173,12 +165,11 @@ module _ (L : Layout) (s : List ℕ) where
             sym (runs-append (rangeStep lower upper) (at-child M p i) (slot L s p i ∷ rest M p (i + 1)) o)
             ∙ (rw (children-more L s (listAt L s (nested M)) p (L .entries) i l) at whole)
 
-        pub inner-stop : (k : ℕ) (b : Bool) (o₁ : Sink) → i < L .entries → Ascending (rest M p i) → k ≡ leAt 8 s (keyAt L p i)
-            → b ≡ not (keyMeetsUpper upper k) → b ≡ true → o₁ ≡ ranged lower upper (at-child M p i) o
+        pub inner-stop : (o₁ : Sink) → i < L .entries → Ascending (rest M p i) → meetsUpper upper (slot L s p i) ≡ false → o₁ ≡ ranged lower upper (at-child M p i) o
             → o₁ ≡ ranged lower upper (listAt L s (nested M) p) o₀
-        inner-stop k b o₁ l asc e eb tb t =
+        inner-stop o₁ l asc f t =
             let m = children-more L s (listAt L s (nested M)) p (L .entries) i l in
-            t ∙ sym (stop-upper lower upper (at-child M p i) (slot L s p i) (rest M p (i + 1)) o (rw m at asc) (slot-past p i k e b eb tb)) ∙ (rw m at whole)
+            t ∙ sym (stop-upper lower upper (at-child M p i) (slot L s p i) (rest M p (i + 1)) o (rw m at asc) f) ∙ (rw m at whole)
 
         -- ---- the number matching stays below a bound that holds for the whole node
 

@@ -8,17 +8,18 @@ use format::Child;
 use format::Layout;
 use format::Position;
 ghost use mathlib.Core.Path.{_≡_};
-ghost use mathlib.Core.Bool.{not};
 ghost use Prim.Native.Nat.{_+_, _^_, _<_, _≤_};
 ghost use lib.ListN.{length};
+ghost use Rattle.format.specs.declared.Bound.the-variants.{Included};
 ghost use Rattle.format.specs.Layout.{layout32, standard, nested, headSize};
 ghost use Rattle.format.specs.Node.{leafCount, slot};
 ghost use Rattle.format.specs.Entries.{slots, listAt};
 ghost use Rattle.format.specs.Certify.{Ascending};
-ghost use Rattle.format.specs.Range.{keyMeetsLower, keyMeetsUpper, matches, select};
-ghost use Rattle.format.specs.Laws.Node.{Node, LeafNode};
+ghost use Rattle.format.specs.Range.{matches, select};
+ghost use Rattle.format.specs.Laws.Node.{Node, LeafNode, InnerNode};
 ghost use Rattle.format.specs.Laws.Written.{out, walked};
 ghost use Rattle.format.specs.Laws.Ranged.{sink, taken, ranged};
+ghost use Rattle.ranges.specs.Endpoints.{From, UpTo};
 
 // What a range answers: the number written and the number matching.
 pub struct Ranged {
@@ -26,23 +27,39 @@ pub struct Ranged {
     pub matching: usize,
 }
 
-fn key_satisfies_lower(key: u64, lower: Bound) -> bool
-    ensures { λ r. ⌜ r ≡ keyMeetsLower lower key ⌝ }
+// An end of the keys that meet a bound: the last of them, or none where no key meets it.
+enum Endpoint {
+    Key(u64),
+    Nothing,
+}
+
+fn least_key(lower: Bound) -> Endpoint
+    ensures { λ r. ⌜ From lower r ⌝ }
 {
     match lower {
-        Bound::Unbounded => true,
-        Bound::Included(lb) => lb <= key,
-        Bound::Excluded(lb) => lb < key,
+        Bound::Unbounded => Endpoint::Key(0),
+        Bound::Included(lb) => Endpoint::Key(lb),
+        Bound::Excluded(lb) => {
+            if lb == 0xffff_ffff_ffff_ffff {
+                return Endpoint::Nothing;
+            }
+            Endpoint::Key(lb + 1)
+        }
     }
 }
 
-fn key_is_past_upper(key: u64, upper: Bound) -> bool
-    ensures { λ r. ⌜ r ≡ not (keyMeetsUpper upper key) ⌝ }
+fn greatest_key(upper: Bound) -> Endpoint
+    ensures { λ r. ⌜ UpTo upper r ⌝ }
 {
     match upper {
-        Bound::Unbounded => false,
-        Bound::Included(ub) => ub < key,
-        Bound::Excluded(ub) => ub <= key,
+        Bound::Unbounded => Endpoint::Key(0xffff_ffff_ffff_ffff),
+        Bound::Included(ub) => Endpoint::Key(ub),
+        Bound::Excluded(ub) => {
+            if ub == 0 {
+                return Endpoint::Nothing;
+            }
+            Endpoint::Key(ub - 1)
+        }
     }
 }
 
@@ -66,21 +83,21 @@ fn range_slot(
     Ranged { written, matching }
 }
 
-// Counts and writes a leaf's slots whose keys meet both bounds; stops at the first key past the upper one.
+// Counts and writes a leaf's slots with keys from `least` to `most`; stops at the first key past them.
 fn range_leaf(
     archive: &[u8],
     pos: Position,
-    lower: Bound,
-    upper: Bound,
+    least: u64,
+    most: u64,
     keys: &mut [u64],
     values: &mut [u64],
     start: Ranged,
 ) -> Ranged
     requires { ⌜ LeafNode layout32 (now archive) (pos .0) ⌝ }
     requires { ⌜ Ascending (slots layout32 (now archive) (pos .0) (leafCount layout32 (now archive) (pos .0)) 0) ⌝ }
-    requires { ⌜ start .matching + length (select (matches lower upper) (slots layout32 (now archive) (pos .0) (leafCount layout32 (now archive) (pos .0)) 0)) < 2 ^ 64 ⌝ }
+    requires { ⌜ start .matching + length (select (matches (Included least) (Included most)) (slots layout32 (now archive) (pos .0) (leafCount layout32 (now archive) (pos .0)) 0)) < 2 ^ 64 ⌝ }
     ensures { λ r. ⌜ sink (now (keys .exit)) (now (values .exit)) (r .written) (r .matching)
-        ≡ ranged lower upper (slots layout32 (now (archive .entry)) (pos .0) (leafCount layout32 (now (archive .entry)) (pos .0)) 0)
+        ≡ ranged (Included least) (Included most) (slots layout32 (now (archive .entry)) (pos .0) (leafCount layout32 (now (archive .entry)) (pos .0)) 0)
         (sink (now (keys .entry)) (now (values .entry)) (start .written) (start .matching)) ⌝ }
 {
     let p = pos.0;
@@ -88,10 +105,10 @@ fn range_leaf(
     let mut done = start;
     for i in 0..n {
         let k = u64_at(archive, p + Layout::KEYS + 8 * i);
-        if !key_satisfies_lower(k, lower) {
+        if k < least {
             continue;
         }
-        if key_is_past_upper(k, upper) {
+        if most < k {
             return done;
         }
         done = range_slot(archive, pos, i, keys, values, done);
@@ -99,38 +116,36 @@ fn range_leaf(
     done
 }
 
-// The same from the node at `pos` on. A child whose slot is below the lower bound is passed over, and so is all that follows the child of the first
-// slot past the upper one.
-fn range_raw(
+// The same from an inner node on. A child whose slot is below `least` is passed over, and so is all that follows the child of the first slot past
+// `most`.
+fn range_inner(
     archive: &[u8],
     pos: Position,
-    lower: Bound,
-    upper: Bound,
+    least: u64,
+    most: u64,
     keys: &mut [u64],
     values: &mut [u64],
     start: Ranged,
 ) -> Ranged
     requires { ⌜ Node layout32 standard (now archive) (pos .0) ⌝ }
+    requires { ⌜ InnerNode layout32 (now archive) (pos .0) ⌝ }
     requires { ⌜ Ascending (listAt layout32 (now archive) (nested standard) (pos .0)) ⌝ }
-    requires { ⌜ start .matching + length (select (matches lower upper) (listAt layout32 (now archive) (nested standard) (pos .0))) < 2 ^ 64 ⌝ }
+    requires { ⌜ start .matching + length (select (matches (Included least) (Included most)) (listAt layout32 (now archive) (nested standard) (pos .0))) < 2 ^ 64 ⌝ }
     ensures { λ r. ⌜ sink (now (keys .exit)) (now (values .exit)) (r .written) (r .matching)
-        ≡ ranged lower upper (listAt layout32 (now (archive .entry)) (nested standard) (pos .0))
+        ≡ ranged (Included least) (Included most) (listAt layout32 (now (archive .entry)) (nested standard) (pos .0))
         (sink (now (keys .entry)) (now (values .entry)) (start .written) (start .matching)) ⌝ }
 {
     let p = pos.0;
-    if archive[p] == 0 {
-        return range_leaf(archive, pos, lower, upper, keys, values, start);
-    }
     let mut done = start;
     for i in 0..Layout::ENTRIES {
         let key = u64_at(archive, p + Layout::KEYS + 8 * i);
-        if !key_satisfies_lower(key, lower) {
+        if key < least {
             continue;
         }
         if let Child::At(q) = child_at(archive, pos, i) {
-            done = range_raw(archive, q, lower, upper, keys, values, done);
+            done = range_node(archive, q, least, most, keys, values, done);
         }
-        if key_is_past_upper(key, upper) {
+        if most < key {
             return done;
         }
         done = range_slot(archive, pos, i, keys, values, done);
@@ -138,7 +153,56 @@ fn range_raw(
     let Child::At(q) = child_at(archive, pos, Layout::ENTRIES) else {
         return done;
     };
-    range_raw(archive, q, lower, upper, keys, values, done)
+    range_node(archive, q, least, most, keys, values, done)
+}
+
+// The same from any node on.
+fn range_node(
+    archive: &[u8],
+    pos: Position,
+    least: u64,
+    most: u64,
+    keys: &mut [u64],
+    values: &mut [u64],
+    start: Ranged,
+) -> Ranged
+    requires { ⌜ Node layout32 standard (now archive) (pos .0) ⌝ }
+    requires { ⌜ Ascending (listAt layout32 (now archive) (nested standard) (pos .0)) ⌝ }
+    requires { ⌜ start .matching + length (select (matches (Included least) (Included most)) (listAt layout32 (now archive) (nested standard) (pos .0))) < 2 ^ 64 ⌝ }
+    ensures { λ r. ⌜ sink (now (keys .exit)) (now (values .exit)) (r .written) (r .matching)
+        ≡ ranged (Included least) (Included most) (listAt layout32 (now (archive .entry)) (nested standard) (pos .0))
+        (sink (now (keys .entry)) (now (values .entry)) (start .written) (start .matching)) ⌝ }
+{
+    let p = pos.0;
+    if archive[p] == 0 {
+        return range_leaf(archive, pos, least, most, keys, values, start);
+    }
+    range_inner(archive, pos, least, most, keys, values, start)
+}
+
+// The same from the root on. It calls `range_inner` itself, so that this one stays a function of its own in the compiled program and `range_node`
+// becomes part of it: a leaf then takes no call.
+fn range_root(
+    archive: &[u8],
+    pos: Position,
+    least: u64,
+    most: u64,
+    keys: &mut [u64],
+    values: &mut [u64],
+    start: Ranged,
+) -> Ranged
+    requires { ⌜ Node layout32 standard (now archive) (pos .0) ⌝ }
+    requires { ⌜ Ascending (listAt layout32 (now archive) (nested standard) (pos .0)) ⌝ }
+    requires { ⌜ start .matching + length (select (matches (Included least) (Included most)) (listAt layout32 (now archive) (nested standard) (pos .0))) < 2 ^ 64 ⌝ }
+    ensures { λ r. ⌜ sink (now (keys .exit)) (now (values .exit)) (r .written) (r .matching)
+        ≡ ranged (Included least) (Included most) (listAt layout32 (now (archive .entry)) (nested standard) (pos .0))
+        (sink (now (keys .entry)) (now (values .entry)) (start .written) (start .matching)) ⌝ }
+{
+    let p = pos.0;
+    if archive[p] == 0 {
+        return range_leaf(archive, pos, least, most, keys, values, start);
+    }
+    range_inner(archive, pos, least, most, keys, values, start)
 }
 
 // Writes the entries from the root on whose keys meet both bounds, from the front of both lists until the shorter is full, and counts them all.
@@ -156,16 +220,15 @@ pub fn range_with(
         ≡ walked (select (matches lower upper) (listAt layout32 (now (archive .entry)) (nested standard) (root .0))) (now (keys .entry)) (now (values .entry)) ⌝ }
     ensures { λ r. ⌜ r .matching ≡ length (select (matches lower upper) (listAt layout32 (now (archive .entry)) (nested standard) (root .0))) ⌝ }
 {
-    range_raw(
-        archive,
-        root,
-        lower,
-        upper,
-        keys,
-        values,
-        Ranged {
-            written: 0,
-            matching: 0,
-        },
-    )
+    let none = Ranged {
+        written: 0,
+        matching: 0,
+    };
+    let Endpoint::Key(least) = least_key(lower) else {
+        return none;
+    };
+    let Endpoint::Key(most) = greatest_key(upper) else {
+        return none;
+    };
+    range_root(archive, root, least, most, keys, values, none)
 }

@@ -4,7 +4,7 @@ use mathlib.Core.Bool.{true}
 use Prim.Native.Nat.{_-_, _≤_}
 use lib.ListN.{length}
 use borrow.Author.Needs.{needs}
-use borrow.Author.Tests.{not-true, not-false}
+use Rattle.format.specs.declared.Bound.the-variants.{Included}
 use Rattle.format.specs.Layout.{layout32}
 use Rattle.format.specs.Node.{slot}
 use Rattle.format.specs.Entries.{slots}
@@ -12,42 +12,38 @@ use Rattle.format.specs.Range.{matches}
 use Rattle.format.specs.Certify.{Ascending}
 use Rattle.format.specs.Laws.Ranged.{sink, ranged}
 use Rattle.btree.proofs.Runs.{leaf-done}
-use Rattle.ranges.proofs.Ranges.{slot-matches, slots-ascend, slots-rest, leaf-pass, leaf-stop, leaf-take, leaf-fits}
+use Rattle.ranges.proofs.Ranges.{slot-low, slot-past, slot-matches, slots-ascend, slots-rest, leaf-pass, leaf-stop, leaf-take, leaf-fits}
 use Rattle.ranges.proofs.iter.range_leaf.Statement.{statement}
 use Rattle.ranges.proofs.iter.range_leaf.Tie as tie
 
 abbrev Inv-loop : tie.InvT-loop
-Inv-loop archive pos lower upper keys₀ values₀ p n done₀ i₀ keys values done i =
+Inv-loop archive pos least most keys₀ values₀ p n done₀ i₀ keys values done i =
     (i ≤ n) × (length keys ≡ length keys₀) × (length values ≡ length values₀) × Ascending (slots layout32 archive (pos .0) (n - i) i)
-    × (ranged lower upper (slots layout32 archive (pos .0) (n - i) i) (sink keys values (done .written) (done .matching))
-    ≡ ranged lower upper (slots layout32 archive (pos .0) (n - i₀) i₀) (sink keys₀ values₀ (done₀ .written) (done₀ .matching)))
+    × (ranged (Included least) (Included most) (slots layout32 archive (pos .0) (n - i) i) (sink keys values (done .written) (done .matching))
+    ≡ ranged (Included least) (Included most) (slots layout32 archive (pos .0) (n - i₀) i₀) (sink keys₀ values₀ (done₀ .written) (done₀ .matching)))
 
 abbrev μ-loop : tie.MeasureT-loop
-μ-loop archive pos lower upper keys₀ values₀ p n done₀ i₀ keys values done i = n - i
+μ-loop archive pos least most keys₀ values₀ p n done₀ i₀ keys values done i = n - i
 
 -- Past both tests the slot matches.
 hit : (c : tie.Else2 Inv-loop μ-loop)
-    → let a = c .before .before .before .before .before .before .before .before .before .before .before .args in
-    matches (a .lower) (a .upper) (slot layout32 (a .archive .now) (a .pos .0) (c .before .before .before .before .before .before .loop .i)) ≡ true
-hit c =
-    let k = c .before .before in
-    let a = k .before .before .before .before .before .before .before .before .before .args in
-    slot-matches layout32 _ (a .lower) (a .upper) _ _ _ (k .before .before .u64-at .ensures) _ _ (k .before .key-satisfies-lower .ensures)
-    (not-false _ (k .if1 .left)) (c .before .key-is-past-upper .ensures) (c .if2 .left)
+    → let a = c .before .before .before .before .before .before .before .before .before .args in
+    matches (Included (a .least)) (Included (a .most)) (slot layout32 (a .archive .now) (a .pos .0) (c .before .before .before .before .loop .i)) ≡ true
+hit c = slot-matches layout32 _ _ _ _ (c .before .before .u64-at .ensures) _ _ (c .before .if1 .left) (c .if2 .left)
 
 loop-holds : tie.Need-loop-holds Inv-loop μ-loop
 loop-holds c = (search needs, search needs, search needs, search slots-ascend, search needs)
 
 loop-again : tie.Need-loop-again Inv-loop μ-loop
-loop-again c = (search needs, search needs, search needs, search slots-rest, search (leaf-pass, not-true))
+loop-again c = (search needs, search needs, search needs, search slots-rest, search (leaf-pass, slot-low layout32 _ _ _ _ (c .before .u64-at .ensures) _ (c .if1 .taken)))
 
 returns : tie.Need-returns Inv-loop μ-loop
-returns c = search leaf-stop
+returns c = search (leaf-stop, slot-past layout32 _ _ _ _ (c .before .before .u64-at .ensures) _ (c .if2 .taken))
 
 range-slot-requires : tie.Need-range-slot-requires Inv-loop μ-loop
 range-slot-requires c κs =
     let past = c .before .before in
-    let turn = past .before .before .before .before .before in
+    let turn = past .before .before .before in
     let head = turn .before in
     let read = head .before in
     let n = leaf-fits layout32 _ _ _ _ _ _ _ (turn .loop-test .taken) (hit past) _ _ _ (read .u32-at .ensures) (head .loop .inv .4)
@@ -76,9 +72,7 @@ range-leaf-spec =
     (search needs)
     (search needs)
     (search needs)
-    (search needs)
     loop-again
-    (search needs)
     (search needs)
     (search needs)
     returns
