@@ -1,23 +1,23 @@
 -- The ends of a range as keys: what they say of the bounds, and that on an archive's entries, whose keys are below 2 ^ 64, both select the same.
 -- Assumes nothing.
-use Prim.Native.Nat.{ℕ, zero, suc, _+_, _-_, _^_, _≤_, _<_}
+use Prim.Native.Nat.{ℕ, zero, suc, _+_, _-_, _^_, _<_}
 use mathlib.Core.Path.{_≡_, refl, sym, ap, _∙_}
 use mathlib.Core.Bool.{Bool, true, false}
 use mathlib.Core.List.{List, [], _∷_, _++_}
 use native.Mathlib.Omega.{arith}
 use lib.ListN.{length}
 use lib.Dec.{leb, ltb}
-use borrow.Author.Tests.{ltb-true, ltb-false, lt-ltb, le-ltb, le-leb, lt-leb}
+use borrow.Author.Tests.{ltb-true, ltb-false, le-ltb, le-leb, lt-leb}
 use Rattle.format.specs.declared.Entry.{Entry}
 use Rattle.format.specs.declared.Bound.{Bound}
 use Rattle.format.specs.declared.Bound.the-variants.{Included, Excluded, Unbounded}
 use Rattle.format.specs.declared.Child.{Child}
 use Rattle.format.specs.declared.Child.the-variants.{At, Absent}
 use Rattle.format.specs.Layout.{Layout}
-use Rattle.format.specs.Bytes.{leAt, AllBytes}
+use Rattle.format.specs.Bytes.{AllBytes}
 use Rattle.format.specs.Node.{Kind, leaf, inner, other, child, kind, keyAt, leafCount, slot}
 use Rattle.format.specs.Entries.{slots, listChild, listChildren, listBody, listAt}
-use Rattle.format.specs.Range.{keyMeetsLower, keyMeetsUpper, meetsLower, meetsUpper, matches, select}
+use Rattle.format.specs.Range.{matches, select}
 use Rattle.format.specs.Laws.Ascend.{Under}
 use Rattle.format.specs.Laws.Bytes.{leAt-lt}
 use Rattle.format.specs.Laws.Children.{childAt, onChild, list-child}
@@ -121,12 +121,12 @@ module _ (f : Entry → Bool) where
   none (x ∷ es) u h = rw (h x (u .0), select) (none es (u .1) h)
 
 module _ (lower upper : Bound) (L : Layout) (s : List ℕ) (b : AllBytes s) (d p : ℕ) where
-  pub ends-same : (least most : ℕ) → From lower (Key least) → UpTo upper (Key most)
-      → select (matches lower upper) (listAt L s d p) ≡ select (matches (Included least) (Included most)) (listAt L s d p)
-  ends-same least most f t =
-      same (matches lower upper) (matches (Included least) (Included most)) (listAt L s d p) (list-under L s b d p) (λ x h. by x h (leb least (x .key)) refl)
+  pub ends-same : (least greatest : ℕ) → From lower (Key least) → UpTo upper (Key greatest)
+      → select (matches lower upper) (listAt L s d p) ≡ select (matches (Included least) (Included greatest)) (listAt L s d p)
+  ends-same least greatest f t =
+      same (matches lower upper) (matches (Included least) (Included greatest)) (listAt L s d p) (list-under L s b d p) (λ x h. by x h (leb least (x .key)) refl)
     where
-      by : (x : Entry) → x .key < 2 ^ 64 → (v : Bool) → leb least (x .key) ≡ v → matches lower upper x ≡ matches (Included least) (Included most) x
+      by : (x : Entry) → x .key < 2 ^ 64 → (v : Bool) → leb least (x .key) ≡ v → matches lower upper x ≡ matches (Included least) (Included greatest) x
       by x h true e = rw (f (x .key) h ∙ e, e, matches) (t (x .key) h)
       by x h false e = rw (f (x .key) h ∙ e, e, matches)
 

@@ -1,12 +1,11 @@
 -- A range: the tests of a slot's key, what the loops over slots and children keep, and that the number matching fits. Assumes nothing.
 use mathlib.Core.Path.{_≡_, refl, sym, ap, _∙_}
-use mathlib.Core.Bool.{Bool, true, false}
+use mathlib.Core.Bool.{true, false}
 use mathlib.Core.List.{List, [], _∷_}
 use Prim.Native.Nat.{ℕ, _+_, _-_, _^_, _≤_, _<_}
 use native.Mathlib.Nat.{sub-zero}
 use native.Mathlib.Omega.{arith}
 use lib.ListN.{length, getD}
-use lib.Dec.{leb}
 use borrow.Author.Tests.{le-leb, lt-leb}
 use Rattle.format.specs.declared.Entry.{Entry}
 use Rattle.format.specs.declared.Position.{Position}
@@ -84,15 +83,15 @@ module _ (L : Layout) (s : List ℕ) where
     unfolding slot
     slot-low least h = rw (← e) (lt-leb least k h)
 
-    pub slot-past : (most : ℕ) → most < k → meetsUpper (Included most) (slot L s p i) ≡ false
+    pub slot-past : (greatest : ℕ) → greatest < k → meetsUpper (Included greatest) (slot L s p i) ≡ false
     unfolding slot
-    slot-past most h = rw (← e) (lt-leb k most h)
+    slot-past greatest h = rw (← e) (lt-leb k greatest h)
 
-    pub slot-matches : (least most : ℕ) → least ≤ k → k ≤ most → matches (Included least) (Included most) (slot L s p i) ≡ true
+    pub slot-matches : (least greatest : ℕ) → least ≤ k → k ≤ greatest → matches (Included least) (Included greatest) (slot L s p i) ≡ true
     unfolding slot
-    slot-matches least most h l =
+    slot-matches least greatest h l =
         let a : meetsLower (Included least) (slot L s p i) ≡ true = rw (← e) (le-leb least k h) in
-        let b : meetsUpper (Included most) (slot L s p i) ≡ true = rw (← e) (le-leb k most l) in
+        let b : meetsUpper (Included greatest) (slot L s p i) ≡ true = rw (← e) (le-leb k greatest l) in
         rw (a, matches) b
 
   module _ (lower upper : Bound) where

@@ -27,7 +27,8 @@ pub struct Ranged {
     pub matching: usize,
 }
 
-// An end of the keys that meet a bound: the last of them, or none where no key meets it.
+// The least key that meets a lower bound, or the greatest that meets an upper one; nothing where no key meets the bound. rkyv's
+// `key_satisfies_lower` and `key_is_past_upper` become comparisons with the two.
 enum Endpoint {
     Key(u64),
     Nothing,
@@ -83,21 +84,21 @@ fn range_slot(
     Ranged { written, matching }
 }
 
-// Counts and writes a leaf's slots with keys from `least` to `most`; stops at the first key past them.
+// Counts and writes a leaf's slots with keys from `least` to `greatest`; stops at the first key past them.
 fn range_leaf(
     archive: &[u8],
     pos: Position,
     least: u64,
-    most: u64,
+    greatest: u64,
     keys: &mut [u64],
     values: &mut [u64],
     start: Ranged,
 ) -> Ranged
     requires { ⌜ LeafNode layout32 (now archive) (pos .0) ⌝ }
     requires { ⌜ Ascending (slots layout32 (now archive) (pos .0) (leafCount layout32 (now archive) (pos .0)) 0) ⌝ }
-    requires { ⌜ start .matching + length (select (matches (Included least) (Included most)) (slots layout32 (now archive) (pos .0) (leafCount layout32 (now archive) (pos .0)) 0)) < 2 ^ 64 ⌝ }
+    requires { ⌜ start .matching + length (select (matches (Included least) (Included greatest)) (slots layout32 (now archive) (pos .0) (leafCount layout32 (now archive) (pos .0)) 0)) < 2 ^ 64 ⌝ }
     ensures { λ r. ⌜ sink (now (keys .exit)) (now (values .exit)) (r .written) (r .matching)
-        ≡ ranged (Included least) (Included most) (slots layout32 (now (archive .entry)) (pos .0) (leafCount layout32 (now (archive .entry)) (pos .0)) 0)
+        ≡ ranged (Included least) (Included greatest) (slots layout32 (now (archive .entry)) (pos .0) (leafCount layout32 (now (archive .entry)) (pos .0)) 0)
         (sink (now (keys .entry)) (now (values .entry)) (start .written) (start .matching)) ⌝ }
 {
     let p = pos.0;
@@ -108,7 +109,7 @@ fn range_leaf(
         if k < least {
             continue;
         }
-        if most < k {
+        if greatest < k {
             return done;
         }
         done = range_slot(archive, pos, i, keys, values, done);
@@ -117,12 +118,12 @@ fn range_leaf(
 }
 
 // The same from an inner node on. A child whose slot is below `least` is passed over, and so is all that follows the child of the first slot past
-// `most`.
+// `greatest`.
 fn range_inner(
     archive: &[u8],
     pos: Position,
     least: u64,
-    most: u64,
+    greatest: u64,
     keys: &mut [u64],
     values: &mut [u64],
     start: Ranged,
@@ -130,9 +131,9 @@ fn range_inner(
     requires { ⌜ Node layout32 standard (now archive) (pos .0) ⌝ }
     requires { ⌜ InnerNode layout32 (now archive) (pos .0) ⌝ }
     requires { ⌜ Ascending (listAt layout32 (now archive) (nested standard) (pos .0)) ⌝ }
-    requires { ⌜ start .matching + length (select (matches (Included least) (Included most)) (listAt layout32 (now archive) (nested standard) (pos .0))) < 2 ^ 64 ⌝ }
+    requires { ⌜ start .matching + length (select (matches (Included least) (Included greatest)) (listAt layout32 (now archive) (nested standard) (pos .0))) < 2 ^ 64 ⌝ }
     ensures { λ r. ⌜ sink (now (keys .exit)) (now (values .exit)) (r .written) (r .matching)
-        ≡ ranged (Included least) (Included most) (listAt layout32 (now (archive .entry)) (nested standard) (pos .0))
+        ≡ ranged (Included least) (Included greatest) (listAt layout32 (now (archive .entry)) (nested standard) (pos .0))
         (sink (now (keys .entry)) (now (values .entry)) (start .written) (start .matching)) ⌝ }
 {
     let p = pos.0;
@@ -143,9 +144,9 @@ fn range_inner(
             continue;
         }
         if let Child::At(q) = child_at(archive, pos, i) {
-            done = range_node(archive, q, least, most, keys, values, done);
+            done = range_node(archive, q, least, greatest, keys, values, done);
         }
-        if most < key {
+        if greatest < key {
             return done;
         }
         done = range_slot(archive, pos, i, keys, values, done);
@@ -153,7 +154,7 @@ fn range_inner(
     let Child::At(q) = child_at(archive, pos, Layout::ENTRIES) else {
         return done;
     };
-    range_node(archive, q, least, most, keys, values, done)
+    range_node(archive, q, least, greatest, keys, values, done)
 }
 
 // The same from any node on.
@@ -161,23 +162,23 @@ fn range_node(
     archive: &[u8],
     pos: Position,
     least: u64,
-    most: u64,
+    greatest: u64,
     keys: &mut [u64],
     values: &mut [u64],
     start: Ranged,
 ) -> Ranged
     requires { ⌜ Node layout32 standard (now archive) (pos .0) ⌝ }
     requires { ⌜ Ascending (listAt layout32 (now archive) (nested standard) (pos .0)) ⌝ }
-    requires { ⌜ start .matching + length (select (matches (Included least) (Included most)) (listAt layout32 (now archive) (nested standard) (pos .0))) < 2 ^ 64 ⌝ }
+    requires { ⌜ start .matching + length (select (matches (Included least) (Included greatest)) (listAt layout32 (now archive) (nested standard) (pos .0))) < 2 ^ 64 ⌝ }
     ensures { λ r. ⌜ sink (now (keys .exit)) (now (values .exit)) (r .written) (r .matching)
-        ≡ ranged (Included least) (Included most) (listAt layout32 (now (archive .entry)) (nested standard) (pos .0))
+        ≡ ranged (Included least) (Included greatest) (listAt layout32 (now (archive .entry)) (nested standard) (pos .0))
         (sink (now (keys .entry)) (now (values .entry)) (start .written) (start .matching)) ⌝ }
 {
     let p = pos.0;
     if archive[p] == 0 {
-        return range_leaf(archive, pos, least, most, keys, values, start);
+        return range_leaf(archive, pos, least, greatest, keys, values, start);
     }
-    range_inner(archive, pos, least, most, keys, values, start)
+    range_inner(archive, pos, least, greatest, keys, values, start)
 }
 
 // The same from the root on. It calls `range_inner` itself, so that this one stays a function of its own in the compiled program and `range_node`
@@ -186,23 +187,23 @@ fn range_root(
     archive: &[u8],
     pos: Position,
     least: u64,
-    most: u64,
+    greatest: u64,
     keys: &mut [u64],
     values: &mut [u64],
     start: Ranged,
 ) -> Ranged
     requires { ⌜ Node layout32 standard (now archive) (pos .0) ⌝ }
     requires { ⌜ Ascending (listAt layout32 (now archive) (nested standard) (pos .0)) ⌝ }
-    requires { ⌜ start .matching + length (select (matches (Included least) (Included most)) (listAt layout32 (now archive) (nested standard) (pos .0))) < 2 ^ 64 ⌝ }
+    requires { ⌜ start .matching + length (select (matches (Included least) (Included greatest)) (listAt layout32 (now archive) (nested standard) (pos .0))) < 2 ^ 64 ⌝ }
     ensures { λ r. ⌜ sink (now (keys .exit)) (now (values .exit)) (r .written) (r .matching)
-        ≡ ranged (Included least) (Included most) (listAt layout32 (now (archive .entry)) (nested standard) (pos .0))
+        ≡ ranged (Included least) (Included greatest) (listAt layout32 (now (archive .entry)) (nested standard) (pos .0))
         (sink (now (keys .entry)) (now (values .entry)) (start .written) (start .matching)) ⌝ }
 {
     let p = pos.0;
     if archive[p] == 0 {
-        return range_leaf(archive, pos, least, most, keys, values, start);
+        return range_leaf(archive, pos, least, greatest, keys, values, start);
     }
-    range_inner(archive, pos, least, most, keys, values, start)
+    range_inner(archive, pos, least, greatest, keys, values, start)
 }
 
 // Writes the entries from the root on whose keys meet both bounds, from the front of both lists until the shorter is full, and counts them all.
@@ -227,8 +228,8 @@ pub fn range_with(
     let Endpoint::Key(least) = least_key(lower) else {
         return none;
     };
-    let Endpoint::Key(most) = greatest_key(upper) else {
+    let Endpoint::Key(greatest) = greatest_key(upper) else {
         return none;
     };
-    range_root(archive, root, least, most, keys, values, none)
+    range_root(archive, root, least, greatest, keys, values, none)
 }

@@ -53,14 +53,14 @@ range-node-below t =
     and 3 range-node-kinds.ps (falls 3 range-node-kinds.ps _<_ μ-range-node t) range-node.Pre
 
 abbrev range-inner-Inv-loop : range-inner-lts.InvT-loop
-range-inner-Inv-loop archive pos least most keys₀ values₀ p done₀ i₀ keys values done i =
+range-inner-Inv-loop archive pos least greatest keys₀ values₀ p done₀ i₀ keys values done i =
     (i ≤ 5) × (pos .0 + leafSize layout32 ≤ length archive) × (length keys ≡ length keys₀) × (length values ≡ length values₀)
     × Ascending (rest layout32 archive standard (pos .0) i)
-    × (ranged (Included least) (Included most) (rest layout32 archive standard (pos .0) i) (sink keys values (done .written) (done .matching))
-    ≡ ranged (Included least) (Included most) (rest layout32 archive standard (pos .0) i₀) (sink keys₀ values₀ (done₀ .written) (done₀ .matching)))
+    × (ranged (Included least) (Included greatest) (rest layout32 archive standard (pos .0) i) (sink keys values (done .written) (done .matching))
+    ≡ ranged (Included least) (Included greatest) (rest layout32 archive standard (pos .0) i₀) (sink keys₀ values₀ (done₀ .written) (done₀ .matching)))
 
 abbrev range-inner-μ-loop : range-inner-lts.MeasureT-loop
-range-inner-μ-loop archive pos least most keys₀ values₀ p done₀ i₀ keys values done i = 5 - i
+range-inner-μ-loop archive pos least greatest keys₀ values₀ p done₀ i₀ keys values done i = 5 - i
 
 abbrev range-inner-calls : ℕ → range-inner-lts.Claims
 range-inner-calls t = (u64-at-reads.Asked, u64-at-reads.Learnt, child-at-reads.Asked, child-at-reads.Learnt, range-node-below t, range-node.Post, range-slot-reads.Asked, range-slot-reads.Learnt)
@@ -75,7 +75,7 @@ joined : (t : ℕ) (c : In-range-inner t range-inner-lts.At-match-came)
     let a = c .before .before .before .before .before .before .before .before .before .args in
     (length (c .match .keys) ≡ length (o .keys)) × (length (c .match .values) ≡ length (o .values))
     × (sink (c .match .keys) (c .match .values) (c .match .done .written) (c .match .done .matching)
-    ≡ ranged (Included (a .least)) (Included (a .most)) (at-child layout32 (a .archive .now) standard (a .pos .0) (o .i))
+    ≡ ranged (Included (a .least)) (Included (a .greatest)) (at-child layout32 (a .archive .now) standard (a .pos .0) (o .i))
     (sink (o .keys) (o .values) (o .done .written) (o .done .matching)))
 joined t c =
     ⊎-elim
@@ -95,7 +95,7 @@ joined t c =
 hit : (t : ℕ) (c : In-range-inner t range-inner-lts.Else2)
     → let m = c .before in
     let a = m .before .before .before .before .before .before .before .before .before .args in
-    matches (Included (a .least)) (Included (a .most)) (slot layout32 (a .archive .now) (a .pos .0) (m .before .before .before .before .before .loop .i)) ≡ true
+    matches (Included (a .least)) (Included (a .greatest)) (slot layout32 (a .archive .now) (a .pos .0) (m .before .before .before .before .before .loop .i)) ≡ true
 hit t c = let m = c .before in slot-matches layout32 _ _ _ _ (m .before .before .before .u64-at .ensures) _ _ (m .before .before .if1 .left) (c .if2 .left)
 
 range-inner-loop-holds : (t : ℕ) → In-range-inner t range-inner-lts.Need-loop-holds
@@ -119,7 +119,7 @@ range-inner-range-node-requires t c κs =
     let pre = start .pre .1 in
     let f = child-falls layout32 standard _ _ refl (pre .0) (not-leaf layout32 _ (pre .1 .0)) (omega arith) (got .child-at .ensures) (at-q .q .given .1) in
     let a = child-ascends layout32 _ standard _ _ _ _ (at-q .q .given .1) (got .child-at .ensures) (turn .loop-test .taken) (head .loop .inv .4) in
-    let n = child-fits layout32 _ (Included (start .args .least)) (Included (start .args .most)) standard _ _ _ _ (pre .0) (pre .1 .0) (head .loop .inv .5) _
+    let n = child-fits layout32 _ (Included (start .args .least)) (Included (start .args .greatest)) standard _ _ _ _ (pre .0) (pre .1 .0) (head .loop .inv .5) _
     (pre .1 .1 .1) _ _ (at-q .q .given .1) (turn .loop-test .taken) (got .child-at .ensures) in
     (omega (arith, f .0, start .pre .0), (f .1, (a, n)))
 
@@ -144,7 +144,7 @@ range-inner-range-slot-requires t c κs =
     let head = turn .before in
     let start = head .before .before .before .before in
     let pre = start .pre .1 in
-    let n = slot-fits layout32 _ (Included (start .args .least)) (Included (start .args .most)) standard _ _ _ _ (pre .0) (pre .1 .0) (head .loop .inv .5) _
+    let n = slot-fits layout32 _ (Included (start .args .least)) (Included (start .args .greatest)) standard _ _ _ _ (pre .0) (pre .1 .0) (head .loop .inv .5) _
     (pre .1 .1 .1) _ (turn .loop-test .taken) (hit t past) (joined t m .2) in
     (omega (arith, head .loop .inv .1), omega (arith, turn .loop-test .taken), n)
 
@@ -180,7 +180,7 @@ range-inner-range-node-requires-2 t c κs =
     let pre = start .pre .1 in
     let f = child-falls layout32 standard _ 5 refl (pre .0) (not-leaf layout32 _ (pre .1 .0)) (omega arith) (got .child-at2 .ensures) (at-q .q2 .given .1) in
     let a = last-ascends layout32 _ standard _ _ _ _ (at-q .q2 .given .1) (got .child-at2 .ensures) (end .loop-test .left) (head .loop .inv .0) (head .loop .inv .4) in
-    let n = last-fits layout32 _ (Included (start .args .least)) (Included (start .args .most)) standard _ _ _ _ (pre .0) (pre .1 .0) (head .loop .inv .5) _
+    let n = last-fits layout32 _ (Included (start .args .least)) (Included (start .args .greatest)) standard _ _ _ _ (pre .0) (pre .1 .0) (head .loop .inv .5) _
     (pre .1 .1 .1) _ _ (at-q .q2 .given .1) (end .loop-test .left) (head .loop .inv .0) (got .child-at2 .ensures) in
     (omega (arith, f .0, start .pre .0), (f .1, (a, n)))
 

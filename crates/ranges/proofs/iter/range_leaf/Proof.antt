@@ -17,18 +17,18 @@ use Rattle.ranges.proofs.iter.range_leaf.Statement.{statement}
 use Rattle.ranges.proofs.iter.range_leaf.Tie as tie
 
 abbrev Inv-loop : tie.InvT-loop
-Inv-loop archive pos least most keys₀ values₀ p n done₀ i₀ keys values done i =
+Inv-loop archive pos least greatest keys₀ values₀ p n done₀ i₀ keys values done i =
     (i ≤ n) × (length keys ≡ length keys₀) × (length values ≡ length values₀) × Ascending (slots layout32 archive (pos .0) (n - i) i)
-    × (ranged (Included least) (Included most) (slots layout32 archive (pos .0) (n - i) i) (sink keys values (done .written) (done .matching))
-    ≡ ranged (Included least) (Included most) (slots layout32 archive (pos .0) (n - i₀) i₀) (sink keys₀ values₀ (done₀ .written) (done₀ .matching)))
+    × (ranged (Included least) (Included greatest) (slots layout32 archive (pos .0) (n - i) i) (sink keys values (done .written) (done .matching))
+    ≡ ranged (Included least) (Included greatest) (slots layout32 archive (pos .0) (n - i₀) i₀) (sink keys₀ values₀ (done₀ .written) (done₀ .matching)))
 
 abbrev μ-loop : tie.MeasureT-loop
-μ-loop archive pos least most keys₀ values₀ p n done₀ i₀ keys values done i = n - i
+μ-loop archive pos least greatest keys₀ values₀ p n done₀ i₀ keys values done i = n - i
 
 -- Past both tests the slot matches.
 hit : (c : tie.Else2 Inv-loop μ-loop)
     → let a = c .before .before .before .before .before .before .before .before .before .args in
-    matches (Included (a .least)) (Included (a .most)) (slot layout32 (a .archive .now) (a .pos .0) (c .before .before .before .before .loop .i)) ≡ true
+    matches (Included (a .least)) (Included (a .greatest)) (slot layout32 (a .archive .now) (a .pos .0) (c .before .before .before .before .loop .i)) ≡ true
 hit c = slot-matches layout32 _ _ _ _ (c .before .before .u64-at .ensures) _ _ (c .before .if1 .left) (c .if2 .left)
 
 loop-holds : tie.Need-loop-holds Inv-loop μ-loop

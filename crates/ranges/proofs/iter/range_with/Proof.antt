@@ -35,8 +35,8 @@ returns-3 c =
     let l = v .before .before in
     let k = l .before .before .before in
     let a = k .before .args in
-    let e = ends-same (a .lower) (a .upper) layout32 (a .archive .now) (bytes k) (nested standard) (a .root .0) (v .least .given .0 .0) (m .most .given .0 .0) (rw (v .least .given .1) at (l .least-key .ensures))
-    (rw (m .most .given .1) at (g .greatest-key .ensures)) in
+    let e = ends-same (a .lower) (a .upper) layout32 (a .archive .now) (bytes k) (nested standard) (a .root .0) (v .least .given .0 .0) (m .greatest .given .0 .0) (rw (v .least .given .1) at (l .least-key .ensures))
+    (rw (m .greatest .given .1) at (g .greatest-key .ensures)) in
     rw e (search range-lists, search range-matching)
 
 pub range-with-spec : {M : Type 1} → statement M
