@@ -2,6 +2,7 @@
 use mathlib.Core.Path.{_≡_}
 use mathlib.Core.Bool.{true}
 use Prim.Native.Nat.{_-_, _≤_}
+use native.Mathlib.Omega.{arith}
 use lib.ListN.{length}
 use borrow.Author.Needs.{needs}
 use Rattle.format.specs.declared.Bound.the-variants.{Included}
@@ -29,7 +30,7 @@ abbrev μ-loop : tie.MeasureT-loop
 hit : (c : tie.Else2 Inv-loop μ-loop)
     → let a = c .before .before .before .before .before .before .before .before .before .args in
     matches (Included (a .least)) (Included (a .greatest)) (slot layout32 (a .archive .now) (a .pos .0) (c .before .before .before .before .loop .i)) ≡ true
-hit c = slot-matches layout32 _ _ _ _ (c .before .before .u64-at .ensures) _ _ (c .before .if1 .left) (c .if2 .left)
+hit c = slot-matches layout32 _ _ _ _ (c .before .before .u64-at .ensures) _ _ (omega (arith, c .before .if1 .left)) (c .if2 .left)
 
 loop-holds : tie.Need-loop-holds Inv-loop μ-loop
 loop-holds c = (search needs, search needs, search needs, search slots-ascend, search needs)
