@@ -68,11 +68,11 @@ pub fn certify(archive: &[u8]) -> CheckAnswer
                 return CheckAnswer::Accepted(0);
             }
             let record = Position(archive.len() - Layout::RECORD);
-            let found = btree::certify::certify(archive, pointed(archive, record));
+            let found = certification::certify(archive, pointed(archive, record));
             if found.hollow {
                 return CheckAnswer::Refused(Refusal::HollowNode);
             }
-            if found.order.ascends {
+            if found.ascends {
                 return CheckAnswer::Accepted(count);
             }
             CheckAnswer::Refused(Refusal::KeysNotAscending)

@@ -1,15 +1,15 @@
--- `btree::certify::note_leaf` meets its contract. Assumes nothing.
+-- `certification::note_leaf` meets its contract. Assumes nothing.
 use Prim.Native.Nat.{_+_, _-_, _≤_}
-use mathlib.Core.Path.{_≡_}
+use mathlib.Core.Path.{_≡_, sym, _∙_}
 use lib.ListN.{length}
 use borrow.Author.Needs.{needs}
 use Rattle.format.specs.Layout.{layout32, leafSize}
 use Rattle.format.specs.Entries.{slots}
 use Rattle.format.specs.Laws.Written.{runs}
-use Rattle.btree.specs.Survey.{step}
+use Rattle.certification.specs.Survey.{step}
 use Rattle.btree.proofs.Runs.{leaf-step, leaf-done}
-use Rattle.btree.proofs.certify.note_leaf.Statement.{statement}
-use Rattle.btree.proofs.certify.note_leaf.Tie as tie
+use Rattle.certification.proofs.note_leaf.Statement.{statement}
+use Rattle.certification.proofs.note_leaf.Tie as tie
 
 abbrev Inv-loop : tie.InvT-loop
 Inv-loop archive pos p n order₀ i₀ order i =
@@ -26,7 +26,12 @@ loop-again : tie.Need-loop-again Inv-loop μ-loop
 loop-again c = (search needs, search needs, search needs, search leaf-step)
 
 returns : tie.Need-returns Inv-loop μ-loop
-returns c = search leaf-done
+returns c =
+    let e = sym (c .before .if1 .taken) ∙ c .before .before .u32-at .ensures in
+    rw (← e) (c .note-full .ensures)
+
+returns-2 : tie.Need-returns-2 Inv-loop μ-loop
+returns-2 c = search leaf-done
 
 pub note-leaf-spec : {M : Type 1} → statement M
 note-leaf-spec =
@@ -37,9 +42,11 @@ note-leaf-spec =
     (search needs)
     (search needs)
     (search needs)
+    (search needs)
+    returns
     loop-holds
     (search needs)
     (search needs)
     (search needs)
     loop-again
-    returns)
+    returns-2)

@@ -1,9 +1,9 @@
--- `btree::certify::note_key` meets its contract. Assumes nothing.
+-- `certification::note_key` meets its contract. Assumes nothing.
 use mathlib.Core.Logic.{⊎-elim}
 use borrow.Author.Tests.{leb-true, leb-false}
-use Rattle.btree.proofs.Surveys.{after-not-above, after-above, after-none}
-use Rattle.btree.proofs.certify.note_key.Statement.{statement}
-use Rattle.btree.proofs.certify.note_key.Tie as tie
+use Rattle.certification.proofs.Surveys.{after-not-above, after-above, after-none}
+use Rattle.certification.proofs.note_key.Statement.{statement}
+use Rattle.certification.proofs.note_key.Tie as tie
 
 returns : tie.Need-returns
 returns c = after-not-above _ _ (c .before .if1 .taken) (leb-true _ _ (c .if2 .taken))

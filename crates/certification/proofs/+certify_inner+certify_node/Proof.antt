@@ -1,0 +1,166 @@
+-- `certification::certify_inner` and `certification::certify_node`, which call each other, meet their contracts: the node's position falls from the
+-- one to the other, and stays from the other to the one. Assumes nothing.
+use Prim.Native.Nat.{ℕ, _+_, _-_, _≤_, _<_}
+use mathlib.Core.Path.{_≡_, refl}
+use mathlib.Core.List.{[]}
+use mathlib.Core.Bool.{false}
+use mathlib.Core.Logic.{⊎-elim}
+use native.Mathlib.Omega.{arith}
+use lib.ListN.{length, getD}
+use Rattle.format.specs.Layout.{layout32, leafSize, standard, nested}
+use Rattle.format.specs.Node.{child}
+use Rattle.format.specs.Entries.{listAt, listChildren}
+use Rattle.format.specs.Certify.{anyChildren, hollowAt}
+use Rattle.format.specs.Laws.Children.{onChild, childAt}
+use Rattle.format.specs.Laws.Node.{as-inner, kind-leaf, node-room, child-falls}
+use Rattle.format.specs.Laws.Written.{runs}
+use Rattle.certification.specs.Survey.{step, raised}
+use Rattle.btree.proofs.Runs.{child-run, child-skipped, inner-step, inner-done}
+use Rattle.certification.proofs.Surveys.{byte-inner, child-flagged, child-unflagged, flag-step, flag-done}
+use borrow.Author.Needs.{needs}
+use borrow.Fn.Kinds.{In, Out}
+use borrow.Fn.PlainCycle.{Measures, is, falls, and}
+use Rattle.certification.proofs.certify_inner.Reads as certify-inner
+use Rattle.certification.proofs.certify_inner.Kinds as inner-kinds
+use Rattle.certification.proofs.+certify_inner+certify_node.Lts-certify_inner as inner-lts
+use Rattle.certification.proofs.certify_node.Reads as certify-node
+use Rattle.certification.proofs.certify_node.Kinds as node-kinds
+use Rattle.certification.proofs.+certify_inner+certify_node.Lts-certify_node as node-lts
+use Rattle.btree.proofs.node.child_at.Reads as child-at
+use Rattle.certification.proofs.certify_leaf.Reads as certify-leaf
+use Rattle.certification.proofs.note_hollow.Reads as note-hollow
+use Rattle.certification.proofs.note_slot.Reads as note-slot
+use Rattle.certification.proofs.+certify_inner+certify_node.{statement}
+use Rattle.certification.proofs.+certify_inner+certify_node.Tie.{close}
+
+abbrev μ-inner : Measures 1 inner-kinds.ps ℕ
+μ-inner κs a = a .1 .0 .0 + a .1 .0 .0
+
+abbrev μ-node : Measures 1 node-kinds.ps ℕ
+μ-node κs a = a .1 .0 .0 + a .1 .0 .0 + 1
+
+abbrev inner-at : ℕ → In 1 inner-kinds.ps
+inner-at t = and 1 inner-kinds.ps (is 1 inner-kinds.ps μ-inner t) certify-inner.Pre
+
+abbrev inner-below : ℕ → In 1 inner-kinds.ps
+inner-below t = and 1 inner-kinds.ps (falls 1 inner-kinds.ps _<_ μ-inner t) certify-inner.Pre
+
+abbrev node-at : ℕ → In 1 node-kinds.ps
+node-at t = and 1 node-kinds.ps (is 1 node-kinds.ps μ-node t) certify-node.Pre
+
+abbrev node-below : ℕ → In 1 node-kinds.ps
+node-below t = and 1 node-kinds.ps (falls 1 node-kinds.ps _<_ μ-node t) certify-node.Pre
+
+-- ---- certify_inner
+
+abbrev Inv-loop : inner-lts.InvT-loop
+Inv-loop archive pos known hollow₀ order₀ i₀ hollow order i =
+    let left = listChildren layout32 archive (listAt layout32 archive (nested standard)) (pos .0) in
+    let any = anyChildren layout32 archive (hollowAt layout32 archive (nested standard)) (pos .0) in
+    (i ≤ 5) × (pos .0 + leafSize layout32 ≤ length archive) × (runs step (left (5 - i) i) order ≡ runs step (left (5 - i₀) i₀) order₀)
+    × (raised hollow (any (5 - i) i) ≡ raised hollow₀ (any (5 - i₀) i₀))
+
+abbrev μ-loop : inner-lts.MeasureT-loop
+μ-loop archive pos known hollow₀ order₀ i₀ hollow order i = 5 - i
+
+abbrev inner-calls : ℕ → inner-lts.Claims
+inner-calls t = (note-hollow.Asked, note-hollow.Learnt, child-at.Asked, child-at.Learnt, node-below t, certify-node.Post, note-slot.Asked, note-slot.Learnt)
+
+abbrev In-inner : ℕ → (inner-lts.Claims → In 1 inner-kinds.ps → Out 1 inner-kinds.ps inner-kinds.r → inner-lts.InvT-loop → inner-lts.MeasureT-loop → Type 0) → Type 0
+In-inner t need = need (inner-calls t) (inner-at t) certify-inner.Post Inv-loop μ-loop
+
+-- The node's first byte is not a leaf's.
+not-leaf : (t : ℕ) (c : In-inner t inner-lts.At-loop) →
+    let a = c .before .before .before .args in getD (a .archive .now) (a .pos .0) 0 ≡ 0 → ⊥
+not-leaf t c = byte-inner layout32 _ _ (c .before .before .before .pre .1 .1)
+
+-- Where the arms of the child's test meet: the nodes from the child on are passed, or there is no child.
+joined : (t : ℕ) (c : In-inner t inner-lts.At-match-came) →
+    let o = c .before .before .loop in
+    let a = c .before .before .before .before .before .args in
+    let f = childAt layout32 (a .archive .now) (child layout32 (a .pos .0) (o .i)) in
+    (c .match .order ≡ runs step (onChild [] (listAt layout32 (a .archive .now) (nested standard)) f) (o .order))
+    × (c .match .hollow ≡ raised (o .hollow) (onChild false (hollowAt layout32 (a .archive .now) (nested standard)) f))
+joined t c =
+    let o = c .before .before .loop in
+    let any = hollowAt layout32 (c .before .before .before .before .before .args .archive .now) (nested standard) in
+    ⊎-elim
+    (λ w. (
+      rw (w .6) (child-run _ _ _ _ _ _ _ _ _ _ (c .before .child-at .ensures) (w .1 .given .1) (w .3 .ensures .0)),
+      rw (w .5) (child-flagged layout32 _ any _ _ _ (o .hollow) (c .before .child-at .ensures) _ _ (w .1 .given .1) (w .3 .ensures .1)),
+    ))
+    (λ w. (
+      rw (w .3) (child-skipped _ _ _ _ _ _ _ _ (c .before .child-at .ensures) (w .1 .given .1)),
+      rw (w .2) (child-unflagged layout32 _ any _ _ _ (o .hollow) (c .before .child-at .ensures) (w .1 .given .1)),
+    ))
+    (c .match .came)
+
+inner-loop-holds : (t : ℕ) → In-inner t inner-lts.Need-loop-holds
+inner-loop-holds t c = search (node-room, needs)
+
+inner-child-at-requires : (t : ℕ) → In-inner t inner-lts.Need-child-at-requires
+inner-child-at-requires t c κs = (as-inner layout32 standard _ (c .before .before .before .pre .1 .0) (not-leaf t c), omega arith)
+
+inner-certify-node-requires : (t : ℕ) → In-inner t inner-lts.Need-certify-node-requires
+inner-certify-node-requires t c κs =
+    let k = c .before .before .before .before in
+    let f =
+    child-falls layout32 standard _ (k .loop .i) refl (k .before .before .before .pre .1 .0) (not-leaf t k) (omega arith) (c .before .before .before .child-at .ensures)
+    (c .before .q .given .1) in
+    (omega (arith, f .0), f .1)
+
+inner-returns : (t : ℕ) → In-inner t inner-lts.Need-returns
+inner-returns t c =
+    let k = c .before .before .before in
+    let n = not-leaf t k in
+    let five : 5 ≤ k .loop .i = omega arith in
+    let j = joined t (c .before) in
+    (search (inner-done, n, five, rw (c .if1 .taken) at (j .0)), search (flag-done, n, j .1))
+
+inner-loop-again : (t : ℕ) → In-inner t inner-lts.Need-loop-again
+inner-loop-again t c =
+    let j = joined t (c .before .before) in
+    let l : c .before .before .before .before .loop .i < 5 = omega arith in
+    (omega arith, search needs, search (inner-step, l, j .0), search (flag-step, l, j .1))
+
+-- ---- certify_node
+
+abbrev node-calls : ℕ → node-lts.Claims
+node-calls t = (certify-leaf.Asked, certify-leaf.Learnt, inner-below t, certify-inner.Post)
+
+abbrev In-node : ℕ → (node-lts.Claims → In 1 node-kinds.ps → Out 1 node-kinds.ps node-kinds.r → Type 0) → Type 0
+In-node t need = need (node-calls t) (node-at t) certify-node.Post
+
+node-shared-slice-read-if1 : (t : ℕ) → In-node t node-lts.Need-shared-slice-read-if1
+node-shared-slice-read-if1 t c = omega (arith, node-room layout32 _ _ (c .before .before .pre .1))
+
+node-certify-leaf-requires : (t : ℕ) → In-node t node-lts.Need-certify-leaf-requires
+node-certify-leaf-requires t c κs = search kind-leaf
+
+node-certify-inner-requires : (t : ℕ) → In-node t node-lts.Need-certify-inner-requires
+node-certify-inner-requires t c κs =
+    let v = c .before .before .before .pre .1 in
+    (omega arith, (v, as-inner layout32 standard _ v (c .if1 .left) .is))
+
+pub +certify-inner+certify-node-spec : {M : Type 1} → statement M
++certify-inner+certify-node-spec =
+    close μ-inner μ-node (λ t. inner-lts.spec (inner-calls t) (inner-at t) certify-inner.Post
+    Inv-loop
+    μ-loop
+    (λ c κs. search needs)
+    (inner-loop-holds t)
+    (inner-child-at-requires t)
+    (λ c. search needs)
+    (inner-certify-node-requires t)
+    (λ c. search needs)
+    (inner-returns t)
+    (λ c κs. search needs)
+    (λ c. search needs)
+    (λ c. search needs)
+    (inner-loop-again t))
+    λ t. node-lts.spec (node-calls t) (node-at t) certify-node.Post
+    (node-shared-slice-read-if1 t)
+    (node-certify-leaf-requires t)
+    (λ c. search needs)
+    (node-certify-inner-requires t)
+    (λ c. search needs)

@@ -1,0 +1,28 @@
+-- `certification::certify_root` meets its contract. Assumes nothing.
+use native.Mathlib.Omega.{arith}
+use Rattle.format.specs.Layout.{layout32, standard}
+use Rattle.format.specs.Laws.Node.{as-inner, kind-leaf, node-room}
+use borrow.Author.Needs.{needs}
+use Rattle.certification.proofs.certify_root.Statement.{statement}
+use Rattle.certification.proofs.certify_root.Tie as tie
+
+shared-slice-read-if1 : tie.Need-shared-slice-read-if1
+shared-slice-read-if1 c = omega (arith, node-room layout32 _ _ (c .before .before .pre))
+
+certify-leaf-requires : tie.Need-certify-leaf-requires
+certify-leaf-requires c κs = search kind-leaf
+
+certify-inner-requires : tie.Need-certify-inner-requires
+certify-inner-requires c κs =
+    let v = c .before .before .before .pre in
+    (v, as-inner layout32 standard _ v (c .if1 .left) .is)
+
+pub certify-root-spec : {M : Type 1} → statement M
+certify-root-spec =
+    tie.close
+    (tie.spec
+    shared-slice-read-if1
+    certify-leaf-requires
+    (λ c. search needs)
+    certify-inner-requires
+    (λ c. search needs))
