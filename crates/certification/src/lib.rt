@@ -11,7 +11,7 @@ ghost use mathlib.Core.Path.{_≡_};
 ghost use Prim.Native.Nat.{_+_, _<_, _≤_};
 ghost use lib.ListN.{length};
 ghost use Rattle.format.specs.Layout.{layout32, standard, nested, headSize};
-ghost use Rattle.format.specs.Node.{leaf, inner, kind, leafCount, slot};
+ghost use Rattle.format.specs.Node.{inner, kind, leafCount, slot};
 ghost use Rattle.format.specs.Entries.{slots, listAt};
 ghost use Rattle.format.specs.Certify.{hollow, hollowAt, ascends};
 ghost use Rattle.format.specs.Laws.Node.{Node, LeafNode};
@@ -110,18 +110,8 @@ fn note_hollow(archive: &[u8], pos: Position, known: usize) -> usize
     known
 }
 
-// A leaf, after the keys passed at the start; `known` tells whether a hollow node is known already.
-fn certify_leaf(archive: &[u8], pos: Position, start: KeyOrder, known: usize) -> Pass
-    requires { ⌜ Node layout32 standard (now archive) (pos .0) × (kind layout32 (now archive) (pos .0) ≡ leaf) ⌝ }
-    ensures { λ r. ⌜ (r .order ≡ runs step (listAt layout32 (now (archive .entry)) (nested standard) (pos .0)) start)
-        × (r .hollow ≡ raised known (hollowAt layout32 (now (archive .entry)) (nested standard) (pos .0))) ⌝ }
-{
-    let order = note_leaf(archive, pos, start);
-    let hollow = note_hollow(archive, pos, known);
-    Pass { order, hollow }
-}
-
-// An inner node and the nodes below it. The field after the lesser children's is the greater child's, which no slot follows.
+// An inner node and the nodes below it, after the keys passed at the start; `known` tells whether a hollow node is known already. The field after
+// the lesser children's is the greater child's, which no slot follows.
 fn certify_inner(archive: &[u8], pos: Position, start: KeyOrder, known: usize) -> Pass
     requires { ⌜ Node layout32 standard (now archive) (pos .0) × (kind layout32 (now archive) (pos .0) ≡ inner) ⌝ }
     ensures { λ r. ⌜ (r .order ≡ runs step (listAt layout32 (now (archive .entry)) (nested standard) (pos .0)) start)
@@ -130,18 +120,18 @@ fn certify_inner(archive: &[u8], pos: Position, start: KeyOrder, known: usize) -
     let mut hollow = note_hollow(archive, pos, known);
     let mut order = start;
     let mut i = 0;
-    loop {
+    while i <= Layout::ENTRIES {
         if let Child::At(q) = child_at(archive, pos, i) {
             let below = certify_node(archive, q, order, hollow);
             order = below.order;
             hollow = below.hollow;
         }
-        if i == Layout::ENTRIES {
-            return Pass { order, hollow };
+        if i < Layout::ENTRIES {
+            order = note_slot(archive, pos, i, order);
         }
-        order = note_slot(archive, pos, i, order);
         i += 1;
     }
+    Pass { order, hollow }
 }
 
 // The nodes from `pos` on.
@@ -152,7 +142,9 @@ fn certify_node(archive: &[u8], pos: Position, start: KeyOrder, known: usize) ->
 {
     let p = pos.0;
     if archive[p] == 0 {
-        return certify_leaf(archive, pos, start, known);
+        let hollow = note_hollow(archive, pos, known);
+        let order = note_leaf(archive, pos, start);
+        return Pass { order, hollow };
     }
     certify_inner(archive, pos, start, known)
 }
@@ -166,7 +158,9 @@ fn certify_root(archive: &[u8], pos: Position, start: KeyOrder, known: usize) ->
 {
     let p = pos.0;
     if archive[p] == 0 {
-        return certify_leaf(archive, pos, start, known);
+        let hollow = note_hollow(archive, pos, known);
+        let order = note_leaf(archive, pos, start);
+        return Pass { order, hollow };
     }
     certify_inner(archive, pos, start, known)
 }

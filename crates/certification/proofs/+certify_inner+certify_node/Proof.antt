@@ -1,5 +1,5 @@
--- `certification::certify_inner` and `certification::certify_node`, which call each other, meet their contracts: the node's position falls from the
--- one to the other, and stays from the other to the one. Assumes nothing.
+-- `certification::certify_inner` and `certification::certify_node`, which call each other, meet their contracts: the position falls where
+-- `certify_node` is called, and stays where `certify_inner` is. Assumes nothing.
 use Prim.Native.Nat.{ℕ, _+_, _-_, _≤_, _<_}
 use mathlib.Core.Path.{_≡_, refl}
 use mathlib.Core.List.{[]}
@@ -9,14 +9,14 @@ use native.Mathlib.Omega.{arith}
 use lib.ListN.{length, getD}
 use Rattle.format.specs.Layout.{layout32, leafSize, standard, nested}
 use Rattle.format.specs.Node.{child}
-use Rattle.format.specs.Entries.{listAt, listChildren}
-use Rattle.format.specs.Certify.{anyChildren, hollowAt}
+use Rattle.format.specs.Entries.{listAt}
+use Rattle.format.specs.Certify.{hollowAt}
 use Rattle.format.specs.Laws.Children.{onChild, childAt}
-use Rattle.format.specs.Laws.Node.{as-inner, kind-leaf, node-room, child-falls}
+use Rattle.format.specs.Laws.Node.{as-leaf, as-inner, node-room, child-falls}
 use Rattle.format.specs.Laws.Written.{runs}
 use Rattle.certification.specs.Survey.{step, raised}
-use Rattle.btree.proofs.Runs.{child-run, child-skipped, inner-step, inner-done}
-use Rattle.certification.proofs.Surveys.{byte-inner, child-flagged, child-unflagged, flag-step, flag-done}
+use Rattle.btree.proofs.Runs.{child-run, child-skipped, leaf-run}
+use Rattle.certification.proofs.Surveys.{byte-inner, left, left-step, left-last, left-done, child-flagged, child-unflagged, anyLeft, leaf-flag, flag-step, flag-done}
 use borrow.Author.Needs.{needs}
 use borrow.Fn.Kinds.{In, Out}
 use borrow.Fn.PlainCycle.{Measures, is, falls, and}
@@ -27,8 +27,8 @@ use Rattle.certification.proofs.certify_node.Reads as certify-node
 use Rattle.certification.proofs.certify_node.Kinds as node-kinds
 use Rattle.certification.proofs.+certify_inner+certify_node.Lts-certify_node as node-lts
 use Rattle.btree.proofs.node.child_at.Reads as child-at
-use Rattle.certification.proofs.certify_leaf.Reads as certify-leaf
 use Rattle.certification.proofs.note_hollow.Reads as note-hollow
+use Rattle.certification.proofs.note_leaf.Reads as note-leaf
 use Rattle.certification.proofs.note_slot.Reads as note-slot
 use Rattle.certification.proofs.+certify_inner+certify_node.{statement}
 use Rattle.certification.proofs.+certify_inner+certify_node.Tie.{close}
@@ -55,13 +55,13 @@ node-below t = and 1 node-kinds.ps (falls 1 node-kinds.ps _<_ μ-node t) certify
 
 abbrev Inv-loop : inner-lts.InvT-loop
 Inv-loop archive pos known hollow₀ order₀ i₀ hollow order i =
-    let left = listChildren layout32 archive (listAt layout32 archive (nested standard)) (pos .0) in
-    let any = anyChildren layout32 archive (hollowAt layout32 archive (nested standard)) (pos .0) in
-    (i ≤ 5) × (pos .0 + leafSize layout32 ≤ length archive) × (runs step (left (5 - i) i) order ≡ runs step (left (5 - i₀) i₀) order₀)
-    × (raised hollow (any (5 - i) i) ≡ raised hollow₀ (any (5 - i₀) i₀))
+    let list = left layout32 archive (listAt layout32 archive (nested standard)) (pos .0) 5 in
+    let any = anyLeft layout32 archive (hollowAt layout32 archive (nested standard)) (pos .0) 5 in
+    (i ≤ 6) × (pos .0 + leafSize layout32 ≤ length archive) × (runs step (list i) order ≡ runs step (list i₀) order₀)
+    × (raised hollow (any i) ≡ raised hollow₀ (any i₀))
 
 abbrev μ-loop : inner-lts.MeasureT-loop
-μ-loop archive pos known hollow₀ order₀ i₀ hollow order i = 5 - i
+μ-loop archive pos known hollow₀ order₀ i₀ hollow order i = 6 - i
 
 abbrev inner-calls : ℕ → inner-lts.Claims
 inner-calls t = (note-hollow.Asked, note-hollow.Learnt, child-at.Asked, child-at.Learnt, node-below t, certify-node.Post, note-slot.Asked, note-slot.Learnt)
@@ -76,14 +76,14 @@ not-leaf t c = byte-inner layout32 _ _ (c .before .before .before .pre .1 .1)
 
 -- Where the arms of the child's test meet: the nodes from the child on are passed, or there is no child.
 joined : (t : ℕ) (c : In-inner t inner-lts.At-match-came) →
-    let o = c .before .before .loop in
-    let a = c .before .before .before .before .before .args in
+    let o = c .before .before .before .loop in
+    let a = c .before .before .before .before .before .before .args in
     let f = childAt layout32 (a .archive .now) (child layout32 (a .pos .0) (o .i)) in
     (c .match .order ≡ runs step (onChild [] (listAt layout32 (a .archive .now) (nested standard)) f) (o .order))
     × (c .match .hollow ≡ raised (o .hollow) (onChild false (hollowAt layout32 (a .archive .now) (nested standard)) f))
 joined t c =
-    let o = c .before .before .loop in
-    let any = hollowAt layout32 (c .before .before .before .before .before .args .archive .now) (nested standard) in
+    let o = c .before .before .before .loop in
+    let any = hollowAt layout32 (c .before .before .before .before .before .before .args .archive .now) (nested standard) in
     ⊎-elim
     (λ w. (
       rw (w .6) (child-run _ _ _ _ _ _ _ _ _ _ (c .before .child-at .ensures) (w .1 .given .1) (w .3 .ensures .0)),
@@ -95,38 +95,47 @@ joined t c =
     ))
     (c .match .came)
 
+-- Where the arms of the slot's test meet: one slot more, or none is left.
+passed : (t : ℕ) (c : In-inner t inner-lts.Joined1) →
+    let o = c .before .before .before .before .loop in
+    let a = c .before .before .before .before .before .before .before .args in
+    let list = left layout32 (a .archive .now) (listAt layout32 (a .archive .now) (nested standard)) (a .pos .0) 5 in
+    runs step (list (o .i + 1)) (c .if1 .order) ≡ runs step (list 0) (a .start)
+passed t c =
+    let k = c .before .before .before .before in
+    let j = joined t (c .before) .0 in
+    let q = k .loop .inv .2 in
+    ⊎-elim
+    (λ w. rw (w .2) (left-step layout32 _ _ _ 5 _ _ _ _ j q (w .0 .taken) _ (w .1 .ensures)))
+    (λ w. rw (w .1) (left-last layout32 _ _ _ 5 _ _ _ _ j q (c .before .before .before .loop-test .taken) (w .0 .left)))
+    (c .if1 .came)
+
 inner-loop-holds : (t : ℕ) → In-inner t inner-lts.Need-loop-holds
 inner-loop-holds t c = search (node-room, needs)
 
 inner-child-at-requires : (t : ℕ) → In-inner t inner-lts.Need-child-at-requires
-inner-child-at-requires t c κs = (as-inner layout32 standard _ (c .before .before .before .pre .1 .0) (not-leaf t c), omega arith)
+inner-child-at-requires t c κs = (as-inner layout32 standard _ (c .before .before .before .before .pre .1 .0) (not-leaf t (c .before)), omega arith)
 
 inner-certify-node-requires : (t : ℕ) → In-inner t inner-lts.Need-certify-node-requires
 inner-certify-node-requires t c κs =
-    let k = c .before .before .before .before in
+    let k = c .before .before .before .before .before in
     let f =
     child-falls layout32 standard _ (k .loop .i) refl (k .before .before .before .pre .1 .0) (not-leaf t k) (omega arith) (c .before .before .before .child-at .ensures)
     (c .before .q .given .1) in
     (omega (arith, f .0), f .1)
 
-inner-returns : (t : ℕ) → In-inner t inner-lts.Need-returns
-inner-returns t c =
-    let k = c .before .before .before in
-    let n = not-leaf t k in
-    let five : 5 ≤ k .loop .i = omega arith in
-    let j = joined t (c .before) in
-    (search (inner-done, n, five, rw (c .if1 .taken) at (j .0)), search (flag-done, n, j .1))
-
 inner-loop-again : (t : ℕ) → In-inner t inner-lts.Need-loop-again
 inner-loop-again t c =
-    let j = joined t (c .before .before) in
-    let l : c .before .before .before .before .loop .i < 5 = omega arith in
-    (omega arith, search needs, search (inner-step, l, j .0), search (flag-step, l, j .1))
+    let l : c .before .before .before .before .loop .i ≤ 5 = omega arith in
+    (omega arith, search needs, passed t c, search (flag-step, l, joined t (c .before) .1))
+
+inner-returns : (t : ℕ) → In-inner t inner-lts.Need-returns
+inner-returns t c = let n = not-leaf t (c .before) in (search (left-done, n), search (flag-done, n))
 
 -- ---- certify_node
 
 abbrev node-calls : ℕ → node-lts.Claims
-node-calls t = (certify-leaf.Asked, certify-leaf.Learnt, inner-below t, certify-inner.Post)
+node-calls t = (note-hollow.Asked, note-hollow.Learnt, note-leaf.Asked, note-leaf.Learnt, inner-below t, certify-inner.Post)
 
 abbrev In-node : ℕ → (node-lts.Claims → In 1 node-kinds.ps → Out 1 node-kinds.ps node-kinds.r → Type 0) → Type 0
 In-node t need = need (node-calls t) (node-at t) certify-node.Post
@@ -134,8 +143,11 @@ In-node t need = need (node-calls t) (node-at t) certify-node.Post
 node-shared-slice-read-if1 : (t : ℕ) → In-node t node-lts.Need-shared-slice-read-if1
 node-shared-slice-read-if1 t c = omega (arith, node-room layout32 _ _ (c .before .before .pre .1))
 
-node-certify-leaf-requires : (t : ℕ) → In-node t node-lts.Need-certify-leaf-requires
-node-certify-leaf-requires t c κs = search kind-leaf
+node-note-leaf-requires : (t : ℕ) → In-node t node-lts.Need-note-leaf-requires
+node-note-leaf-requires t c κs = search as-leaf
+
+node-returns : (t : ℕ) → In-node t node-lts.Need-returns
+node-returns t c = (search leaf-run, search leaf-flag)
 
 node-certify-inner-requires : (t : ℕ) → In-node t node-lts.Need-certify-inner-requires
 node-certify-inner-requires t c κs =
@@ -153,14 +165,15 @@ pub +certify-inner+certify-node-spec : {M : Type 1} → statement M
     (λ c. search needs)
     (inner-certify-node-requires t)
     (λ c. search needs)
-    (inner-returns t)
     (λ c κs. search needs)
     (λ c. search needs)
     (λ c. search needs)
-    (inner-loop-again t))
+    (inner-loop-again t)
+    (inner-returns t))
     λ t. node-lts.spec (node-calls t) (node-at t) certify-node.Post
     (node-shared-slice-read-if1 t)
-    (node-certify-leaf-requires t)
-    (λ c. search needs)
+    (λ c κs. search needs)
+    (node-note-leaf-requires t)
+    (node-returns t)
     (node-certify-inner-requires t)
     (λ c. search needs)

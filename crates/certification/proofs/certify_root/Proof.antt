@@ -1,7 +1,9 @@
 -- `certification::certify_root` meets its contract. Assumes nothing.
 use native.Mathlib.Omega.{arith}
 use Rattle.format.specs.Layout.{layout32, standard}
-use Rattle.format.specs.Laws.Node.{as-inner, kind-leaf, node-room}
+use Rattle.format.specs.Laws.Node.{as-leaf, as-inner, node-room}
+use Rattle.btree.proofs.Runs.{leaf-run}
+use Rattle.certification.proofs.Surveys.{leaf-flag}
 use borrow.Author.Needs.{needs}
 use Rattle.certification.proofs.certify_root.Statement.{statement}
 use Rattle.certification.proofs.certify_root.Tie as tie
@@ -9,8 +11,11 @@ use Rattle.certification.proofs.certify_root.Tie as tie
 shared-slice-read-if1 : tie.Need-shared-slice-read-if1
 shared-slice-read-if1 c = omega (arith, node-room layout32 _ _ (c .before .before .pre))
 
-certify-leaf-requires : tie.Need-certify-leaf-requires
-certify-leaf-requires c κs = search kind-leaf
+note-leaf-requires : tie.Need-note-leaf-requires
+note-leaf-requires c κs = search as-leaf
+
+returns : tie.Need-returns
+returns c = (search leaf-run, search leaf-flag)
 
 certify-inner-requires : tie.Need-certify-inner-requires
 certify-inner-requires c κs =
@@ -22,7 +27,8 @@ certify-root-spec =
     tie.close
     (tie.spec
     shared-slice-read-if1
-    certify-leaf-requires
-    (λ c. search needs)
+    (λ c κs. search needs)
+    note-leaf-requires
+    returns
     certify-inner-requires
     (λ c. search needs))
