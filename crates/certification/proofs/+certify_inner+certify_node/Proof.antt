@@ -105,9 +105,10 @@ passed t c =
     let k = c .before .before .before .before in
     let j = joined t (c .before) .0 in
     let q = k .loop .inv .2 in
+    let l : k .loop .i ≤ 5 = omega arith in
     ⊎-elim
     (λ w. rw (w .2) (left-step layout32 _ _ _ 5 _ _ _ _ j q (w .0 .taken) _ (w .1 .ensures)))
-    (λ w. rw (w .1) (left-last layout32 _ _ _ 5 _ _ _ _ j q (c .before .before .before .loop-test .taken) (w .0 .left)))
+    (λ w. rw (w .1) (left-last layout32 _ _ _ 5 _ _ _ _ j q l (w .0 .left)))
     (c .if1 .came)
 
 inner-loop-holds : (t : ℕ) → In-inner t inner-lts.Need-loop-holds
