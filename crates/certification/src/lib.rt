@@ -18,8 +18,8 @@ ghost use Rattle.format.specs.Laws.Node.{Node, LeafNode};
 ghost use Rattle.format.specs.Laws.Written.{runs};
 ghost use Rattle.certification.specs.Survey.{after, step, raised};
 
-// The keys passed: whether there was one, the last, and whether each was above the one before. The two flags are whole words, 1 or 0: copies of
-// a struct with bools copy their padding too and take several times as long.
+// The keys passed: whether there was one, the last, and whether each was above the one before. The two flags are whole words, 1 or 0: of a struct
+// with bools the compiler copies the padding too, which stalls.
 struct KeyOrder {
     some: usize,
     last: u64,
