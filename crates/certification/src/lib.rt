@@ -43,7 +43,7 @@ fn note_key(order: KeyOrder, key: u64) -> KeyOrder
     let some = order.some;
     let last = order.last;
     let mut ascends = order.ascends;
-    if some == 1 && key <= last {
+    if key <= last && some == 1 {
         ascends = 0;
     }
     KeyOrder {
