@@ -87,7 +87,11 @@ fn main() -> ExitCode {
     println!("archives                            {archives:9}");
     println!("certified                           {certified:9}");
     counts.print(1..=9);
-    println!("seeds {first} to {}, in {places:?}", first + number);
+    let stood = match places {
+        [Place::Heap] => "in allocations of exactly their size",
+        _ => "at both of two pages that fault",
+    };
+    println!("seeds {first} to {}, {stood}", first + number);
     ExitCode::SUCCESS
 }
 
