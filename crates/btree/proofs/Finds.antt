@@ -1,6 +1,6 @@
 -- The lookup: what the scan of a node's slots keeps, what the loop down the tree keeps, and that a value that is found lies within the bytes. Assumes
 -- nothing.
-use mathlib.Core.Path.{_≡_, refl, sym, _∙_}
+use mathlib.Core.Path.{_≡_, refl, sym, ap, _∙_}
 use Prim.Native.Nat.{ℕ, zero, suc, _+_, _-_, _≤_, _<_}
 use native.Mathlib.Omega.{arith}
 use native.Mathlib.Nat.{sub-zero}
@@ -17,7 +17,7 @@ use Rattle.format.specs.declared.Found.the-variants.{Entry as found, Nothing as
 use Rattle.format.specs.Layout.{Layout, headSize, Limits, nested}
 use Rattle.format.specs.Bytes.{leAt}
 use Rattle.format.specs.Node.{leaf, inner, child, keyAt, leafCount, slot}
-use Rattle.format.specs.Lookup.{Order, less, equal, greater, order, lookupSlots, lookupChildren, lookupBody, lookupAt, bytesOf}
+use Rattle.format.specs.Lookup.{Order, less, equal, greater, order, lookupSlots, lookupChildren, lookupBody, lookupAt, bytesOf, placeOf}
 use Rattle.format.specs.Laws.Children.{Leads, childAt, onChild, on-at, on-absent, look-child, child-leads}
 use Rattle.format.specs.Laws.Node.{Node, leafG, innerG, Good, LeafNode, InnerNode, kind-leaf, as-leaf, as-inner, lookup-node}
 use Rattle.btree.specs.Seek.{seekAt}
@@ -230,16 +230,30 @@ module _ (L : Layout) (s : List ℕ) where
   good-room key (suc d) (suc m) le p (innerG n v) =
       rw (n .is) (inner-part key (lookupAt L s key m) p n (λ j q l x. good-room key d m (omega arith) q (v j q l x)))
 
+pub same-place : {a b : ℕ × ℕ} → b .0 ≡ a .0 → b .1 ≡ a .1 → b ≡ a
+same-place {a} {b} e f = ap (λ (x : ℕ). (x, b .1)) e ∙ ap (λ (y : ℕ). (a .0, y)) f
+
 module _ (L : Layout) (M : Limits) (s : List ℕ) (p key : ℕ) (r : Found) (q : r ≡ lookupAt L s key (nested M) p) where
   pub found-room : (e : Entry) → Node L M s p → r ≡ found e → e .position .0 + 8 ≤ length s
   found-room e v k = rw (sym q ∙ k) at (good-room L s key (v .level) (nested M) (v .fits) p (v .good))
 
-  -- ---- the part of the bytes that is handed back
+  -- ---- the part of the bytes that is handed back: its content, and where it stands
+
+  pub bytes-eight : (e : Entry) → r ≡ found e → take 8 (drop (e .position .0) s) ≡ bytesOf s (lookupAt L s key (nested M) p)
+  unfolding bytesOf
+  bytes-eight e k = rw (← q, k) refl
 
   pub bytes-some : (e : Entry) → r ≡ found e → take (e .position .0 + 8 - e .position .0) (drop (e .position .0) s) ≡ bytesOf s (lookupAt L s key (nested M) p)
-  unfolding bytesOf
-  bytes-some e k = let z : e .position .0 + 8 - e .position .0 ≡ 8 = omega arith in rw (z, ← q, k) refl
+  bytes-some e k = let z : e .position .0 + 8 - e .position .0 ≡ 8 = omega arith in rw z (bytes-eight e k)
 
   pub bytes-none : r ≡ nothing → [] ≡ bytesOf s (lookupAt L s key (nested M) p)
   unfolding bytesOf
   bytes-none k = rw (← q, k) refl
+
+  -- b is where the part stands, of an archive that stands at a.
+  module _ (a b : ℕ × ℕ) (base : b .0 ≡ a .0) where
+    pub place-some : (e : Entry) → r ≡ found e → b .1 ≡ a .1 + e .position .0 → b ≡ placeOf a (lookupAt L s key (nested M) p)
+    place-some e k o = same-place base o ∙ ap (placeOf a) (sym k ∙ q)
+
+    pub place-none : r ≡ nothing → b .1 ≡ a .1 → b ≡ placeOf a (lookupAt L s key (nested M) p)
+    place-none k o = same-place base o ∙ ap (placeOf a) (sym k ∙ q)

@@ -10,11 +10,12 @@ use format::Layout;
 use format::Position;
 ghost use mathlib.Core.Path.{_≡_};
 ghost use Prim.Native.Nat.{_+_, _≤_};
+ghost use denote.Ref.{ptr};
 ghost use lib.ListN.{length};
 ghost use Rattle.format.specs.Layout.{layout32, standard, nested, headSize};
 ghost use Rattle.format.specs.Node.{leafCount};
 ghost use Rattle.format.specs.Entries.{slots, listAt};
-ghost use Rattle.format.specs.Lookup.{lookupAt, bytesOf};
+ghost use Rattle.format.specs.Lookup.{lookupAt, bytesOf, placeOf};
 ghost use Rattle.format.specs.Laws.Node.{Node, LeafNode};
 ghost use Rattle.format.specs.Laws.Written.{out, fill, walked};
 ghost use Rattle.btree.specs.Seek.{seekAt};
@@ -139,10 +140,12 @@ pub fn get_key_value_raw(archive: &[u8], pos: Position, key: u64) -> Found
     }
 }
 
-// The eight bytes of the value with that key, as a part of the archive; the empty part where there is none.
+// The eight bytes of the value with that key, as a part of the archive; where there is none, the empty part at its start.
 pub fn get_bytes<'a>(archive: &'a [u8], pos: Position, key: u64) -> &'a [u8]
     requires { ⌜ Node layout32 standard (now archive) (pos .0) ⌝ }
-    ensures { λ r. ⌜ now r ≡ bytesOf (now (archive .entry)) (lookupAt layout32 (now (archive .entry)) key (nested standard) (pos .0)) ⌝ }
+    ensures place { λ r. ⌜ ptr r
+        ≡ placeOf (ptr (archive .entry)) (lookupAt layout32 (now (archive .entry)) key (nested standard) (pos .0)) ⌝ }
+    ensures bytes { λ r. ⌜ now r ≡ bytesOf (now (archive .entry)) (lookupAt layout32 (now (archive .entry)) key (nested standard) (pos .0)) ⌝ }
 {
     let Found::Entry(e) = get_key_value_raw(archive, pos, key) else {
         return &archive[0..0];

@@ -18,6 +18,7 @@ use perimetry::key::KeyFields;
 use perimetry::key::Packed;
 ghost use mathlib.Core.Path.{_≡_};
 ghost use lib.ListN.{length};
+ghost use denote.Ref.{ptr};
 ghost use Rattle.format.specs.Layout.{layout32, standard};
 ghost use Rattle.format.specs.Refusal.{checkOf, number};
 ghost use Rattle.format.specs.RelPtr.{signedOffset, storedOffset, absentOffset};
@@ -26,7 +27,7 @@ ghost use Rattle.format.specs.Key.{packKey, fieldsOf};
 ghost use Rattle.format.specs.Check.{counted, checkArchive};
 ghost use Rattle.format.specs.Certify.{certify};
 ghost use Rattle.format.specs.Build.{build, outAfter};
-ghost use Rattle.format.specs.Calls.{lookupCall, bytesCall, walkCall, walkKeys, walkValues, rangeCall, rangeKeys, rangeValues, columnCall, columnKeys, columnValues};
+ghost use Rattle.format.specs.Calls.{lookupCall, bytesCall, placeCall, walkCall, walkKeys, walkValues, rangeCall, rangeKeys, rangeValues, columnCall, columnKeys, columnValues};
 ghost use Rattle.fields.specs.Answers.{distanceOf, storedOf, alignedOf};
 ghost use Rattle.builder.specs.Answers.{builtOf};
 ghost use Rattle.perimetry.specs.Answers.{packedOf, unpackedOf};
@@ -100,9 +101,10 @@ pub fn lookup(archive: &[u8], key: u64) -> LookupAnswer
     }
 }
 
-// The eight bytes of its value, as a part of the archive; the empty part where there is none or the archive is refused.
+// The eight bytes of its value, as a part of the archive; where there is none or the archive is refused, the empty part at its start.
 pub fn lookup_bytes<'a>(archive: &'a [u8], key: u64) -> &'a [u8]
-    ensures { λ r. ⌜ now r ≡ bytesCall layout32 standard (now (archive .entry)) key ⌝ }
+    ensures place { λ r. ⌜ ptr r ≡ placeCall layout32 standard (now (archive .entry)) (ptr (archive .entry)) key ⌝ }
+    ensures bytes { λ r. ⌜ now r ≡ bytesCall layout32 standard (now (archive .entry)) key ⌝ }
 {
     let CheckAnswer::Accepted(count) = validation::check::check(archive) else {
         return &archive[0..0];

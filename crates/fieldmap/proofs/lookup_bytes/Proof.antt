@@ -1,10 +1,11 @@
 -- `fieldmap::lookup_bytes` meets its contract. Assumes nothing.
-use mathlib.Core.Path.{_≡_, sym, ap, _∙_}
+use mathlib.Core.Path.{_≡_, refl, sym, ap, _∙_}
 use native.Mathlib.Omega.{arith}
 use Rattle.format.specs.Layout.{layout32, standard}
 use Rattle.format.specs.Check.{counted, checkArchive}
 use Rattle.format.specs.Refusal.{number, gives, refuses, checkOf}
-use Rattle.format.specs.Laws.Opened.{room-for, root-back, node, bytes-refuses, bytes-none, bytes-gives}
+use Rattle.format.specs.Laws.Opened.{room-for, root-back, node, bytes-refuses, bytes-none, bytes-gives, place-refuses, place-none, place-gives}
+use Rattle.btree.proofs.Finds.{same-place}
 use borrow.Author.Needs.{needs}
 use Rattle.fieldmap.proofs.lookup_bytes.Statement.{statement}
 use Rattle.fieldmap.proofs.lookup_bytes.Tie as tie
@@ -35,7 +36,9 @@ part-result-end : tie.Need-part-result-end
 part-result-end c = search needs
 
 returns : tie.Need-returns
-returns c = sym (bytes-refuses layout32 standard _ _ (shut (c .before)) _)
+returns c =
+    let refused = shut (c .before) in
+    (same-place refl (omega arith) ∙ sym (place-refuses layout32 standard _ _ refused _ _), sym (bytes-refuses layout32 standard _ _ refused _))
 
 sub-result-2 : tie.Need-sub-result-2
 sub-result-2 c = search needs
@@ -47,7 +50,10 @@ part-result-end-2 : tie.Need-part-result-end-2
 part-result-end-2 c = search needs
 
 returns-2 : tie.Need-returns-2
-returns-2 c = sym (bytes-none layout32 standard _ _ (opened (c .before .before .before)) (c .before .if1 .taken) _)
+returns-2 c =
+    let accepted = opened (c .before .before .before) in
+    let none = c .before .if1 .taken in
+    (same-place refl (omega arith) ∙ sym (place-none layout32 standard _ _ accepted none _ _), sym (bytes-none layout32 standard _ _ accepted none _))
 
 sub-t14 : tie.Need-sub-t14
 sub-t14 c = omega (arith, room-for layout32 standard _ _ (opened (c .before .before)))
@@ -59,7 +65,13 @@ get-bytes-requires : tie.Need-get-bytes-requires
 get-bytes-requires c κs = node layout32 standard _ _ (opened (c .before .before .before)) (c .before .if1 .left) _ (c .pointed .ensures)
 
 returns-3 : tie.Need-returns-3
-returns-3 c = c .get-bytes .ensures ∙ sym (bytes-gives layout32 standard _ _ (opened (c .before .before .before .before)) (c .before .before .if1 .left) _ (c .before .pointed .ensures) _)
+returns-3 c =
+    let told : tie.After-count = search in
+    let some = c .before .before .if1 .left in
+    let root = c .before .pointed .ensures in
+    let (place, bytes) = c .get-bytes .ensures in
+    (place ∙ sym (place-gives layout32 standard _ _ (opened told) some _ root _ _),
+    bytes ∙ sym (bytes-gives layout32 standard _ _ (opened told) some _ root _))
 
 pub lookup-bytes-spec : {M : Type 1} → statement M
 lookup-bytes-spec =
