@@ -48,10 +48,11 @@ pub record Goes (ks vs : List ℕ) (ll : ℕ) (s : Building) (out : List ℕ) (t
   pub enough : (f : ℕ) → length ks ≤ s .next + f → length ks ≤ t .next + fuel f
   pub same : (f : ℕ) → length ks ≤ s .next + f → runS f ks vs ll s out ≡ runS (fuel f) ks vs ll t out′
 
--- When a whole leaf and an entry after it go to the lowest open inner node, and the leaf's end.
+-- When a whole leaf and an entry after it go to the lowest open inner node, and the leaf's end; or why they do not: fewer entries are left, the leaf does
+-- not fit, or it is the last level's last.
 abbrev pub Told : Fit → ℕ → ℕ → ℕ → ℕ → ℕ → ℕ → Type 0
 Told (Ends e) len at count next ll n = ((e ≡ at + 96) × (at + 96 ≤ len)) × ((next + 6 ≤ n) × ((count + 5 < ll) ⊎ (ll ≤ count)))
-Told NoRoom len at count next ll n = ℕ
+Told NoRoom len at count next ll n = (n < next + 6) ⊎ ((len < at + 96) ⊎ ((count < ll) × (ll ≤ count + 5)))
 
 -- The lowest of the open inner nodes takes leaves and entries.
 abbrev pub Strides : List ℕ → List ℕ → ℕ → Low → List ℕ → Low → List ℕ → Type 0

@@ -11,13 +11,13 @@ sub-if1 : tie.Need-sub-if1
 sub-if1 c = search needs
 
 returns : tie.Need-returns
-returns c = search needs
+returns c = inl (omega arith)
 
 returns-2 : tie.Need-returns-2
-returns-2 c = search needs
+returns-2 c = inr (inl (omega arith))
 
 returns-3 : tie.Need-returns-3
-returns-3 c = search needs
+returns-3 c = inr (inl (omega arith))
 
 add-t9 : tie.Need-add-t9
 add-t9 c = search needs
@@ -29,7 +29,7 @@ sub-if5 : tie.Need-sub-if5
 sub-if5 c = search needs
 
 returns-5 : tie.Need-returns-5
-returns-5 c = search needs
+returns-5 c = inr (inr (omega arith, omega arith))
 
 add-t7 : tie.Need-add-t7
 add-t7 c = search needs
