@@ -1,89 +1,154 @@
 -- The mission's demands as theorems about what the calls promise, in the order of its sentences. The calls' contracts equate each answer, and
 -- each lent list afterwards, with a definition of `format` at `layout32` and `standard`; the theorems speak of these definitions, for all arguments.
 -- Assumes nothing.
-use Prim.Native.Nat.{ℕ, _+_, _<_, _≤_}
+use Prim.Native.Nat.{ℕ, _+_, _^_, _<_, _≤_}
 use mathlib.Core.Path.{_≡_, refl, sym, _∙_, ap}
-use mathlib.Core.Logic.{_≢_, _↔_}
+use mathlib.Core.Logic.{_≢_, _↔_, _⊎_}
 use mathlib.Core.Bool.{true, false}
 use mathlib.Core.List.{List, [], map, _++_}
 use native.Mathlib.Omega.{arith}
 use lib.Dec.{lit≤}
 use lib.ListN.{length, take, drop}
+use lib.IntN.{ℤ}
 use lib.Seq.{length-take-le}
 use Rattle.format.specs.declared.Entry.{Entry}
 use Rattle.format.specs.declared.Found.{Found}
 use Rattle.format.specs.declared.Found.the-variants.{Entry as found, Nothing as nothing}
 use Rattle.format.specs.declared.Bound.{Bound}
 use Rattle.format.specs.Layout.{layout32, standard}
-use Rattle.format.specs.Refusal.{Answer, gives, refuses}
+use Rattle.format.specs.Refusal.{Answer, gives, refuses, RefusesBy}
 use Rattle.format.specs.Bytes.{AllWords}
-use Rattle.format.specs.RelPtr.{at, target}
+use Rattle.format.specs.RelPtr.{at, target, signedOffset, storedOffset, absentOffset}
+use Rattle.format.specs.Align.{alignStep}
+use Rattle.format.specs.Key.{packKey}
 use Rattle.format.specs.Check.{counted, root, recorded, checkArchive}
 use Rattle.format.specs.Entries.{list}
 use Rattle.format.specs.Reachable.{Field, Lands, Apart}
 use Rattle.format.specs.Certify.{Ascending, Solid, certify}
-use Rattle.format.specs.Lookup.{find, bytesOf}
+use Rattle.format.specs.Lookup.{find, bytesOf, placeOf}
 use Rattle.format.specs.Range.{crosses, range}
 use Rattle.format.specs.RangeIter.{new, Yields}
 use Rattle.format.specs.Written.{written, keysAfter, valuesAfter}
 use Rattle.format.specs.Tree.{Pair}
 use Rattle.format.specs.Build.{treeOf, pairs, build, archive, outBy, outAfter}
-use Rattle.format.specs.Serialize.{streamed}
-use Rattle.format.specs.Calls.{lookupCall, bytesCall, walkCall, walkKeys, walkValues, rangeCall, rangeKeys, rangeValues}
+use Rattle.format.specs.Serialize.{serialize, streamed}
+use Rattle.format.specs.Calls.{lookupCall, bytesCall, placeCall, walkCall, walkKeys, walkValues, rangeCall, rangeKeys, rangeValues, columnCall, columnKeys, columnValues}
 use Rattle.format.specs.Laws.Find.{In, find-found, find-nothing, find-one}
-use Rattle.format.specs.Laws.Refusals.{UpTo, check-up, certify-up}
+use Rattle.format.specs.Laws.CallRefusals.{check-by, certify-by, lookup-refused, walk-refused, range-refused, column-refused-by, build-by, signed-by, stored-by, absent-by, align-by, pack-by}
 use Rattle.format.specs.Laws.Archive.{field-lands, field-apart, field-once, list-length}
 use Rattle.format.specs.Laws.Certify.{Certified, lookup-certified}
-use Rattle.format.specs.Laws.Opened.{certify-refuses, lookup-refuses, bytes-refuses, walk-refuses, walk-keys-refuses, walk-values-refuses, range-refuses, range-keys-refuses, range-values-refuses, is-recorded, is-archive, lookup-accepted, bytes-accepted, walk-accepted, walk-keys-accepted, walk-values-accepted, certified-exactly, is-certified, certified-accepts, range-certified, range-keys-certified, range-values-certified}
+use Rattle.format.specs.Laws.Opened.{certify-refuses, lookup-refuses, bytes-refuses, place-refuses, walk-refuses, walk-keys-refuses, walk-values-refuses, range-refuses, range-keys-refuses, range-values-refuses, is-recorded, is-archive, lookup-accepted, bytes-accepted, place-accepted, walk-accepted, walk-keys-accepted, walk-values-accepted, certified-exactly, is-certified, certified-accepts, range-certified, range-keys-certified, range-values-certified, column-uncertified}
 use Rattle.format.specs.Laws.RangeIter.{range-yields}
-use Rattle.format.specs.Laws.Built32.{Taken, taken, Certifies, build-certifies, build-output, Offsets, build-emplaces}
-use Rattle.format.specs.Laws.Streaming.{streamed-archive}
+use Rattle.format.specs.Laws.Built32.{Taken, taken, taken-gives, build-certifies, build-output, build-archive, Offsets, build-emplaces}
+use Rattle.format.specs.Laws.Streaming.{never-panics, streamed-archive}
 
--- ---- demand 1: "gets an answer or a listed refusal .. and a refusal changes no lent buffer"
+-- ---- demand 1: "gets an answer or a listed refusal .. and a refusal changes no lent buffer". `unpack` refuses nothing and is lent nothing.
 
--- Check answers a count or refuses by 1 to 7, certify by 1 to 9. The readers refuse by check's number, the range by certify's.
-pub demand-1-check : (s : List ℕ) → UpTo 7 (checkArchive layout32 standard s)
-demand-1-check s = check-up layout32 standard s
+-- Check refuses only by 1 to 7, certify by 1 to 9.
+pub demand-1-check : (s : List ℕ) → RefusesBy 1 7 (counted (checkArchive layout32 standard s))
+demand-1-check s = check-by layout32 standard s
 
-pub demand-1-certify : (s : List ℕ) → UpTo 9 (certify layout32 standard s)
-demand-1-certify s = certify-up layout32 standard s
+pub demand-1-certify : (s : List ℕ) → RefusesBy 1 9 (counted (certify layout32 standard s))
+demand-1-certify s = certify-by layout32 standard s
 
+-- What check refuses, every reader refuses, by the same number; what certify refuses, range and column.
+pub record Shut (s : List ℕ) (r : ℕ) : Type 0 where
+  pub certifying : counted (certify layout32 standard s) ≡ refuses r
+  pub lookup : (k : ℕ) → lookupCall layout32 standard s k ≡ refuses r
+  pub walk : (ks vs : List ℕ) → walkCall layout32 standard s ks vs ≡ refuses r
+
+pub demand-1-shut : (s : List ℕ) (r : ℕ) → counted (checkArchive layout32 standard s) ≡ refuses r → Shut s r
+demand-1-shut s r e =
+    record {
+      certifying = certify-refuses layout32 standard s r e;
+      lookup = lookup-refuses layout32 standard s r e;
+      walk = walk-refuses layout32 standard s r e;
+    }
+
+pub record Uncertified (s : List ℕ) (r : ℕ) : Type 0 where
+  pub range : (lo hi : Bound) (ks vs : List ℕ) → rangeCall layout32 standard s lo hi ks vs ≡ refuses r
+  pub column : (exam eye : ℕ) (a b : ℤ) (ks vs : List ℕ) → columnCall layout32 standard s exam eye a b ks vs ≡ refuses r
+
+pub demand-1-uncertified : (s : List ℕ) (r : ℕ) → counted (certify layout32 standard s) ≡ refuses r → Uncertified s r
+demand-1-uncertified s r e =
+    record {
+      range = range-refuses layout32 standard s r e;
+      column = λ exam eye a b ks vs. column-uncertified layout32 standard s exam eye a b ks vs r e;
+    }
+
+-- A lookup that refuses: only where check does, so by 1 to 7. The second form then returns the empty part, at the archive's start.
+pub record LookupRefused (s : List ℕ) (k r : ℕ) : Type 0 where
+  pub check : counted (checkArchive layout32 standard s) ≡ refuses r
+  pub part : bytesCall layout32 standard s k ≡ []
+  pub place : (a : ℕ × ℕ) → placeCall layout32 standard s a k ≡ a
+
+pub demand-1-lookup : (s : List ℕ) (k r : ℕ) → lookupCall layout32 standard s k ≡ refuses r → LookupRefused s k r
+demand-1-lookup s k r e =
+    let c = lookup-refused layout32 standard s k r e in
+    record { check = c; part = bytes-refuses layout32 standard s r c k; place = λ a. place-refuses layout32 standard s r c a k }
+
+-- A walk that refuses: only where check does, and the lent lists stay.
 pub record WalkRefused (s ks vs : List ℕ) (r : ℕ) : Type 0 where
-  pub answer : walkCall layout32 standard s ks vs ≡ refuses r
+  pub check : counted (checkArchive layout32 standard s) ≡ refuses r
   pub keys : walkKeys layout32 standard s ks vs ≡ ks
   pub values : walkValues layout32 standard s ks vs ≡ vs
 
-pub demand-1-walk : (s ks vs : List ℕ) (r : ℕ) → counted (checkArchive layout32 standard s) ≡ refuses r → WalkRefused s ks vs r
+pub demand-1-walk : (s ks vs : List ℕ) (r : ℕ) → walkCall layout32 standard s ks vs ≡ refuses r → WalkRefused s ks vs r
 demand-1-walk s ks vs r e =
-    record {
-      answer = walk-refuses layout32 standard s r e ks vs;
-      keys = walk-keys-refuses layout32 standard s r e ks vs;
-      values = walk-values-refuses layout32 standard s r e ks vs;
-    }
+    let c = walk-refused layout32 standard s ks vs r e in
+    record { check = c; keys = walk-keys-refuses layout32 standard s r c ks vs; values = walk-values-refuses layout32 standard s r c ks vs }
 
-pub record LookupRefused (s : List ℕ) (k r : ℕ) : Type 0 where
-  pub answer : lookupCall layout32 standard s k ≡ refuses r
-  pub part : bytesCall layout32 standard s k ≡ []
-
-pub demand-1-lookup : (s : List ℕ) (k r : ℕ) → counted (checkArchive layout32 standard s) ≡ refuses r → LookupRefused s k r
-demand-1-lookup s k r e = record { answer = lookup-refuses layout32 standard s r e k; part = bytes-refuses layout32 standard s r e k }
-
+-- A range that refuses: only where certify does, so by 1 to 9.
 pub record RangeRefused (s : List ℕ) (lo hi : Bound) (ks vs : List ℕ) (r : ℕ) : Type 0 where
-  pub answer : rangeCall layout32 standard s lo hi ks vs ≡ refuses r
+  pub certifying : counted (certify layout32 standard s) ≡ refuses r
   pub keys : rangeKeys layout32 standard s lo hi ks vs ≡ ks
   pub values : rangeValues layout32 standard s lo hi ks vs ≡ vs
 
-pub demand-1-range : (s : List ℕ) (lo hi : Bound) (ks vs : List ℕ) (r : ℕ) → counted (certify layout32 standard s) ≡ refuses r → RangeRefused s lo hi ks vs r
+pub demand-1-range : (s : List ℕ) (lo hi : Bound) (ks vs : List ℕ) (r : ℕ) → rangeCall layout32 standard s lo hi ks vs ≡ refuses r
+    → RangeRefused s lo hi ks vs r
 demand-1-range s lo hi ks vs r e =
+    let c = range-refused layout32 standard s lo hi ks vs r e in
     record {
-      answer = range-refuses layout32 standard s r e lo hi ks vs;
-      keys = range-keys-refuses layout32 standard s r e lo hi ks vs;
-      values = range-values-refuses layout32 standard s r e lo hi ks vs;
+      certifying = c;
+      keys = range-keys-refuses layout32 standard s r c lo hi ks vs;
+      values = range-values-refuses layout32 standard s r c lo hi ks vs;
     }
 
-pub demand-1-build : (ks vs : List ℕ) (h : ℕ) (out : List ℕ) (r : ℕ) → build layout32 ks vs h (length out) ≡ refuses r → outAfter layout32 ks vs h out ≡ out
+-- A column query that refuses: where certify does, or by 18.
+pub record ColumnRefused (s : List ℕ) (exam eye : ℕ) (a b : ℤ) (ks vs : List ℕ) (r : ℕ) : Type 0 where
+  pub number : (counted (certify layout32 standard s) ≡ refuses r) ⊎ (r ≡ 18)
+  pub keys : columnKeys layout32 standard s exam eye a b ks vs ≡ ks
+  pub values : columnValues layout32 standard s exam eye a b ks vs ≡ vs
+
+pub demand-1-column : (s : List ℕ) (exam eye : ℕ) (a b : ℤ) (ks vs : List ℕ) (r : ℕ) → columnCall layout32 standard s exam eye a b ks vs ≡ refuses r
+    → ColumnRefused s exam eye a b ks vs r
+demand-1-column s exam eye a b ks vs r e =
+    let (n, kept) = column-refused-by layout32 standard s exam eye a b ks vs r e in
+    record { number = n; keys = kept .0; values = kept .1 }
+
+-- A build refuses only by 10 to 14, and leaves the output.
+pub demand-1-build : (ks vs : List ℕ) (h room : ℕ) → RefusesBy 10 14 (build layout32 ks vs h room)
+demand-1-build ks vs h room = build-by layout32 ks vs h room
+
+pub demand-1-output : (ks vs : List ℕ) (h : ℕ) (out : List ℕ) (r : ℕ) → build layout32 ks vs h (length out) ≡ refuses r → outAfter layout32 ks vs h out ≡ out
 unfolding outAfter
-demand-1-build ks vs h out r e = ap (λ (a : Answer ℕ). outBy layout32 a h (pairs ks vs) out) e
+demand-1-output ks vs h out r e = ap (λ (a : Answer ℕ). outBy layout32 a h (pairs ks vs) out) e
+
+-- The parts and the packing are lent nothing. The absent mark is asked for a position, which has 64 bits.
+pub demand-1-signed-offset : (from to : ℕ) → RefusesBy 15 15 (signedOffset from to)
+demand-1-signed-offset from to = signed-by from to
+
+pub demand-1-offset32 : (from to : ℕ) → RefusesBy 15 16 (storedOffset 31 from to)
+demand-1-offset32 from to = stored-by 31 from to
+
+pub demand-1-absent-offset : (pos : ℕ) → pos < 2 ^ 64 → RefusesBy 15 15 (absentOffset 31 pos)
+demand-1-absent-offset pos l = absent-by 31 pos (lit≤ tt) l
+
+pub demand-1-align : (pos alignment : ℕ) → RefusesBy 17 17 (alignStep pos alignment)
+demand-1-align pos alignment = align-by pos alignment
+
+pub demand-1-pack : (exam eye : ℕ) (x y : ℤ) (presentation : ℕ) → RefusesBy 18 18 (packKey exam eye x y presentation)
+demand-1-pack exam eye x y presentation = pack-by exam eye x y presentation
 
 -- ---- demand 2: "they equal the crate's .. proved from its definitions". The definitions of check, lookup and walk are transliterations of the
 -- crate's `verify`, `get_key_value_raw` and `visit_raw`; the range and the builder are proved equal to theirs.
@@ -93,9 +158,14 @@ pub demand-2-range : (s : List ℕ) (n : ℕ) → counted (certify layout32 stan
     → Yields layout32 standard s (new layout32 standard s lo hi) (range layout32 standard s lo hi)
 demand-2-range s n e lo hi c = range-yields layout32 standard s (lit≤ tt) (is-certified layout32 standard s n e) lo hi c
 
--- The crate's loop leaves the archive's bytes.
-pub demand-2-build : (header : List ℕ) (es : List Pair) → streamed layout32 header es ≡ archive layout32 header es
-demand-2-build header es = streamed-archive layout32 (lit≤ tt) header es
+-- The crate's loop meets no `unwrap` of nothing and leaves the archive's bytes.
+pub record Streamed (header : List ℕ) (es : List Pair) : Type 0 where
+  pub panics : (p : ℕ) → serialize layout32 es p .panics ≡ false
+  pub bytes : streamed layout32 header es ≡ archive layout32 header es
+
+pub demand-2-build : (header : List ℕ) (es : List Pair) → Streamed header es
+demand-2-build header es =
+    record { panics = never-panics layout32 (lit≤ tt) es; bytes = streamed-archive layout32 (lit≤ tt) header es }
 
 -- ---- demand 3, "Whatever bytes are handed in as an archive: if the check accepts them"
 
@@ -138,11 +208,12 @@ module _ (s : List ℕ) (n : ℕ) (accepts : counted (checkArchive layout32 stan
 
 -- "On certified ones"
 module _ (s : List ℕ) (n : ℕ) (certifies : counted (certify layout32 standard s) ≡ gives n) where
-  -- "for every key, lookup finds exactly the list's entry with that key, or nothing": what it answers, that an entry which it finds is the list's and
-  -- has the key, that every entry of the list is found by its key, and that where it finds nothing no entry has the key.
+  -- "for every key, lookup finds exactly the list's entry with that key, or nothing": what it answers; that the part of the second form is the eight
+  -- bytes at that entry's position, and where it stands; that an entry which it finds is the list's and has the key, that every entry of the list is found by its key, and that where it finds nothing no entry has the key.
   pub record Looked (k : ℕ) : Type 0 where
     pub answer : lookupCall layout32 standard s k ≡ gives (find k (list layout32 standard s))
     pub part : bytesCall layout32 standard s k ≡ bytesOf s (find k (list layout32 standard s))
+    pub place : (a : ℕ × ℕ) → placeCall layout32 standard s a k ≡ placeOf a (find k (list layout32 standard s))
     pub hit : (e : Entry) → find k (list layout32 standard s) ≡ found e → In e (list layout32 standard s) × (e .key ≡ k)
     pub only : (e : Entry) → In e (list layout32 standard s) → e .key ≡ k → find k (list layout32 standard s) ≡ found e
     pub miss : find k (list layout32 standard s) ≡ nothing → (e : Entry) → In e (list layout32 standard s) → e .key ≢ k
@@ -156,6 +227,7 @@ module _ (s : List ℕ) (n : ℕ) (certifies : counted (certify layout32 standar
       record {
         answer = lookup-accepted layout32 standard s n a k ∙ ap gives e;
         part = bytes-accepted layout32 standard s n a k ∙ ap (bytesOf s) e;
+        place = λ p. place-accepted layout32 standard s n a p k ∙ ap (placeOf p) e;
         hit = find-found k l;
         only = λ x i ek. ap (λ (j : ℕ). find j l) (sym ek) ∙ find-one l (C .ascending) x i;
         miss = find-nothing k l;
@@ -175,20 +247,32 @@ module _ (s : List ℕ) (n : ℕ) (certifies : counted (certify layout32 standar
         values = range-values-certified layout32 standard s n certifies lo hi ks vs;
       }
 
--- "And for every strictly ascending list that the builder takes, behind whatever header, the archive is certified, and its list has the given keys
--- and values, entry for entry." The output is the header, the archive behind it, and the bytes past it as they were; 15 and 16 never arise.
+-- "And for every strictly ascending list that the builder takes": it takes exactly what 10 to 14 let through.
+pub demand-3-takes : (ks vs : List ℕ) (h room n : ℕ) → (build layout32 ks vs h room ≡ gives n) ↔ Taken layout32 ks vs h room n
+demand-3-takes ks vs h room n = (taken layout32 ks vs h room n, taken-gives layout32 ks vs h room n)
+
+-- ", behind whatever header, the archive is certified, and its list has the given keys and values, entry for entry." The archive is the output's first n
+-- bytes as the builder left them, the header in front; the bytes past it are as they were; 15 and 16 never arise.
 module _ (ks vs : List ℕ) (out : List ℕ) (h n : ℕ) (wk : AllWords ks) (wv : AllWords vs) (takes : build layout32 ks vs h (length out) ≡ gives n) where
   pub record BuiltArchive : Type 0 where
+    pub certified : counted (certify layout32 standard (take n (outAfter layout32 ks vs h out))) ≡ gives (length ks)
+    pub keys : map (λ (e : Entry). e .key) (list layout32 standard (take n (outAfter layout32 ks vs h out))) ≡ ks
+    pub values : map (λ (e : Entry). e .value) (list layout32 standard (take n (outAfter layout32 ks vs h out))) ≡ vs
+    pub bytes : take n (outAfter layout32 ks vs h out) ≡ archive layout32 (take h out) (pairs ks vs)
     pub output : outAfter layout32 ks vs h out ≡ archive layout32 (take h out) (pairs ks vs) ++ drop n out
-    pub certifies : Certifies (take h out) ks vs n
     pub offsets : Offsets h (treeOf layout32 (pairs ks vs))
 
   pub demand-3-build : BuiltArchive
   demand-3-build =
       let T = taken layout32 ks vs h (length out) n takes in
       let eh : length (take h out) ≡ h = length-take-le h out (omega (arith, T .fits, T .size)) in
+      let C = build-certifies (take h out) ks vs (length out) n wk wv (ap (λ (x : ℕ). build layout32 ks vs x (length out)) eh ∙ takes) in
+      let b = build-archive layout32 ks vs h out n takes in
       record {
+        certified = ap (λ (s : List ℕ). counted (certify layout32 standard s)) b ∙ C .certified;
+        keys = ap (λ (s : List ℕ). map (λ (e : Entry). e .key) (list layout32 standard s)) b ∙ C .keys;
+        values = ap (λ (s : List ℕ). map (λ (e : Entry). e .value) (list layout32 standard s)) b ∙ C .values;
+        bytes = b;
         output = build-output layout32 ks vs h out n takes;
-        certifies = build-certifies (take h out) ks vs (length out) n wk wv (ap (λ (x : ℕ). build layout32 ks vs x (length out)) eh ∙ takes);
         offsets = build-emplaces ks vs h (length out) n wk wv takes;
       }

@@ -69,9 +69,10 @@ returns-3 c =
     let told : tie.After-count = search in
     let some = c .before .before .if1 .left in
     let root = c .before .pointed .ensures in
-    let (place, bytes) = c .get-bytes .ensures in
-    (place ∙ sym (place-gives layout32 standard _ _ (opened told) some _ root _ _),
-    bytes ∙ sym (bytes-gives layout32 standard _ _ (opened told) some _ root _))
+    let (place, bytes) = c .get-bytes .ensures in (
+      place ∙ sym (place-gives layout32 standard _ _ (opened told) some _ root _ _),
+      bytes ∙ sym (bytes-gives layout32 standard _ _ (opened told) some _ root _),
+    )
 
 pub lookup-bytes-spec : {M : Type 1} → statement M
 lookup-bytes-spec =
