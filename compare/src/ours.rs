@@ -4,6 +4,7 @@ use std::ops::{Bound, RangeInclusive};
 
 use fieldmap::Refusal;
 
+use crate::model::KeyFields;
 use crate::rkyv_map::Found;
 
 /// An answer with numbers as the comparison has them.
@@ -75,4 +76,33 @@ pub fn column(
 /// The archive's end in the output, behind a header of so many bytes that stay, or the refusal.
 pub fn build(output: &mut [u8], header: usize, keys: &[u64], values: &[u64]) -> Result<u32, u8> {
     answer(fieldmap::build(output, header, keys, values))
+}
+
+/// The offset that a field at one position stores to lead to another, or the refusal.
+pub fn offset(from: u64, to: u64) -> Result<i32, u8> {
+    fieldmap::offset32(from, to).map_err(Refusal::number)
+}
+
+/// The offset that marks an absent pointer at a position, or the refusal.
+pub fn absent(at: u64) -> Result<i32, u8> {
+    fieldmap::absent_offset(at).map_err(Refusal::number)
+}
+
+/// The next position on an alignment and the number of zeros before it, or the refusal.
+pub fn align(position: u64, alignment: u64) -> Result<(u64, u64), u8> {
+    fieldmap::align(position, alignment)
+        .map(|aligned| (aligned.next, aligned.zeros))
+        .map_err(Refusal::number)
+}
+
+/// A key, or the refusal.
+pub fn pack(fields: &KeyFields) -> Result<u64, u8> {
+    let key = fieldmap::Key {
+        examination: fields.examination,
+        eye: fields.eye,
+        x: fields.x,
+        y: fields.y,
+        presentation: fields.presentation,
+    };
+    key.pack().map_err(Refusal::number)
 }

@@ -1,9 +1,12 @@
 //! rkyv's own parts that document 01 names: differences and offsets of positions, and the alignment step.
 
+use std::mem::MaybeUninit;
+
 use rkyv::primitive::ArchivedI32;
 use rkyv::rancor::BoxedError;
-use rkyv::rel_ptr::{signed_offset, Offset};
+use rkyv::rel_ptr::{signed_offset, Offset, RawRelPtrI32};
 use rkyv::ser::{Positional, Writer, WriterExt};
+use rkyv::Place;
 
 /// Document 01's number of an error: 15 for a distance that does not fit 64 bits, 16 for one that does not fit the field.
 fn refusal(error: &BoxedError) -> u8 {
@@ -37,6 +40,19 @@ pub fn offset(from: u64, to: u64) -> Result<i32, u8> {
 /// largest position and 1.
 pub fn absent(at: u64) -> Result<i32, u8> {
     offset(at, at.wrapping_add(1))
+}
+
+/// What a field at a position holds after `try_emplace` of another position, or after `try_emplace_invalid`.
+pub fn emplaced(at: u64, to: Option<u64>) -> Result<i32, u8> {
+    let mut field = MaybeUninit::<RawRelPtrI32>::zeroed();
+    // SAFETY: the pointer is to a local of the right type, all of whose bytes are set.
+    let place = unsafe { Place::new_unchecked(at as usize, field.as_mut_ptr()) };
+    let stored = match to {
+        Some(to) => RawRelPtrI32::try_emplace::<BoxedError>(to as usize, place),
+        None => RawRelPtrI32::try_emplace_invalid(place),
+    };
+    stored.map_err(|error| refusal(&error))?;
+    Ok(i32::from_le_bytes(place.as_slice().try_into().unwrap()))
 }
 
 /// A writer that has a position and no bytes.

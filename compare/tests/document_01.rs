@@ -1,6 +1,5 @@
 //! The oracle itself: rkyv and the model give what document 01 says.
 
-use std::mem::MaybeUninit;
 use std::ops::Bound;
 
 use compare::by_hand::Output;
@@ -8,9 +7,6 @@ use compare::model::{Column, KeyFields};
 use compare::questions::builds::checksum;
 use compare::rkyv_map::{build, by_key, Accepted, Archive};
 use compare::{cases, model, rkyv_parts, trees};
-use rkyv::rancor::BoxedError;
-use rkyv::rel_ptr::RawRelPtrI32;
-use rkyv::Place;
 
 /// rkyv's check, as a number.
 fn check(bytes: &[u8]) -> Result<u32, u8> {
@@ -38,34 +34,14 @@ fn cases_1_and_2() {
     assert_eq!(rkyv_parts::offset(0, 1 << 63), Err(15));
 }
 
-/// An absent mark at the largest position is refused, as a release build does; a debug build stops at the sum.
-#[test]
-#[cfg_attr(debug_assertions, should_panic(expected = "overflow"))]
-fn absent_at_the_largest_position() {
-    let mut field = MaybeUninit::<RawRelPtrI32>::zeroed();
-    // SAFETY: the pointer is to a local of the right type, all of whose bytes are set.
-    let place = unsafe { Place::new_unchecked(usize::MAX, field.as_mut_ptr()) };
-    assert!(RawRelPtrI32::try_emplace_invalid::<BoxedError>(place).is_err());
-}
-
 /// What rkyv stores in fields is what its parts answer.
 #[test]
 fn stored_offsets() {
-    let mut field = MaybeUninit::<RawRelPtrI32>::zeroed();
     for at in [0, 1, 96, 1 << 31, 1 << 62] {
-        // SAFETY: as above.
-        let place = unsafe { Place::new_unchecked(at, field.as_mut_ptr()) };
-        let stored =
-            |place: &Place<RawRelPtrI32>| i32::from_le_bytes(place.as_slice().try_into().unwrap());
-        RawRelPtrI32::try_emplace_invalid::<BoxedError>(place).unwrap();
-        assert_eq!(rkyv_parts::absent(at as u64), Ok(stored(&place)));
+        assert_eq!(rkyv_parts::emplaced(at, None), rkyv_parts::absent(at));
         for to in [0, 1, 96, 1 << 31, 1 << 62, 1 << 63] {
-            let answer = RawRelPtrI32::try_emplace::<BoxedError>(to, place);
-            let offset = rkyv_parts::offset(at as u64, to as u64);
-            assert_eq!(answer.is_ok(), offset.is_ok());
-            if let Ok(offset) = offset {
-                assert_eq!(offset, stored(&place));
-            }
+            let stored = rkyv_parts::emplaced(at, Some(to));
+            assert_eq!(stored, rkyv_parts::offset(at, to));
         }
     }
 }
@@ -180,17 +156,6 @@ fn named_archives() {
             "certify of {name}"
         );
     }
-}
-
-/// Refusal 1 is ours alone.
-#[test]
-fn too_long() {
-    let longest = vec![0; 1_048_576];
-    assert_eq!(model::check(&longest), Ok(0));
-    assert_eq!(check(&longest), Ok(0));
-    let longer = vec![0; 1_048_580];
-    assert_eq!(model::check(&longer), Err(1));
-    assert_eq!(check(&longer), Ok(0));
 }
 
 #[test]
