@@ -26,6 +26,8 @@
 //! - `distance D`, `offset O`, `absent O`, `align NEXT ZEROS`, `pack KEY`, `unpack EXAMINATION EYE X Y PRESENTATION`, and `value THRESHOLD`
 //!   or `value seen THRESHOLD`.
 //!
+//! It ends with `questions N`, the number of questions in the input. A sample for the gate that is shorter than `SAMPLE` is not written.
+//!
 //! `compare::questions` says who gives each answer.
 
 use std::process::ExitCode;
@@ -45,6 +47,8 @@ const NOT_RKYV: [(&str, &[&str]); 4] = [
         &["pack ", "unpack ", "value "],
     ),
 ];
+/// The sample for the gate has at least this many archives, builds, and parts and keys.
+const SAMPLE: [usize; 3] = [461, 136, 257];
 /// A random sample of this many archives must have each refusal often enough.
 const LONG: usize = 10_000;
 
@@ -79,7 +83,11 @@ fn main() -> ExitCode {
 
 /// The sample for the gate.
 fn sample() -> [Vec<Question>; 3] {
-    [archives::all(), builds::all(), parts::all()]
+    let sample = [archives::all(), builds::all(), parts::all()];
+    for (questions, least) in sample.iter().zip(SAMPLE) {
+        assert!(questions.len() >= least, "the sample became shorter");
+    }
+    sample
 }
 
 fn random(number: usize, seed: u64) -> [Vec<Question>; 3] {
@@ -105,11 +113,13 @@ fn write(
     }
     let mut bytes = Vec::new();
     let mut lines = archives::longest();
+    let number: usize = questions.iter().map(Vec::len).sum();
     for question in questions.into_iter().flatten() {
         bytes.extend(question.bytes);
         lines.extend(question.lines);
     }
     bytes.push(0);
+    lines.push(format!("questions {number}"));
     fs::write(input, &bytes)?;
     fs::write(expected, lines.join("\n") + "\n")?;
     println!("bytes of input                      {:9}", bytes.len());

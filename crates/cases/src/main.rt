@@ -20,6 +20,8 @@ mod output;
 mod parts;
 
 use input::next_u8;
+use output::print;
+use output::print_line;
 
 // The question of a kind, and whether there is one.
 fn replay_one(kind: u8, buffer: &mut [u8]) -> bool {
@@ -40,16 +42,23 @@ fn replay_one(kind: u8, buffer: &mut [u8]) -> bool {
     true
 }
 
-// Nothing says that the input ends, so the questions are counted down from a number that no run uses up.
-fn replay_all(buffer: &mut [u8]) {
-    let mut left = u64::MAX;
-    while left > 0 && replay_one(next_u8(), buffer) {
-        left -= 1;
+// Nothing says that the input ends, so the questions are counted up to a number that no run reaches. How many there were.
+fn replay_all(buffer: &mut [u8]) -> u64 {
+    let mut questions = 0;
+    while questions < u64::MAX {
+        if !replay_one(next_u8(), buffer) {
+            return questions;
+        }
+        questions += 1;
     }
+    questions
 }
 
+// The last line says how many questions there were, so that none can be lost unseen.
 fn main() {
     archives::replay_longest();
     let mut buffer = io::large_buffer();
-    replay_all(&mut buffer);
+    let questions = replay_all(&mut buffer);
+    print(b"questions ");
+    print_line(questions);
 }

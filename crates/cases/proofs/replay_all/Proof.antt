@@ -1,5 +1,6 @@
 -- `cases::replay_all` is safe and ends. Assumes nothing.
 use mathlib.Core.Path.{_≡_, refl}
+use Prim.Native.Nat.{_-_, _^_}
 use native.Mathlib.Omega.{arith}
 use lib.ListN.{length}
 use borrow.Author.Needs.{needs}
@@ -7,10 +8,10 @@ use Rattle.cases.proofs.replay_all.Statement.{statement}
 use Rattle.cases.proofs.replay_all.Tie as tie
 
 abbrev Inv-loop : tie.InvT-loop
-Inv-loop buffer₀ left₀ buffer left = length buffer ≡ length buffer₀
+Inv-loop buffer₀ questions₀ buffer questions = length buffer ≡ length buffer₀
 
 abbrev μ-loop : tie.MeasureT-loop
-μ-loop buffer₀ left₀ buffer left = left
+μ-loop buffer₀ questions₀ buffer questions = 2 ^ 64 - questions
 
 pub replay-all-spec : {M : Type 1} → statement M
 replay-all-spec =
