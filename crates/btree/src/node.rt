@@ -1,4 +1,4 @@
-// What all readers read of an accepted node: where a child's field leads, and a slot.
+// What all readers read of an accepted node (rkyv's src/collections/btree/map/mod.rs): where a child's field leads, and a slot.
 use fields::primitive::u32_at;
 use fields::primitive::u64_at;
 use fields::rel_ptr::is_invalid_at;

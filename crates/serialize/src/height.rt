@@ -1,4 +1,4 @@
-// The levels of a tree by the number of entries.
+// The levels of a tree by the number of entries (rkyv's `entries_to_height` in src/collections/btree/map/mod.rs).
 use format::Layout;
 ghost use mathlib.Core.Path.{_≡_};
 ghost use Prim.Native.Nat.{_-_, _^_, _≤_};
