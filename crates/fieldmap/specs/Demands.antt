@@ -209,7 +209,8 @@ module _ (s : List ℕ) (n : ℕ) (accepts : counted (checkArchive layout32 stan
 -- "On certified ones"
 module _ (s : List ℕ) (n : ℕ) (certifies : counted (certify layout32 standard s) ≡ gives n) where
   -- "for every key, lookup finds exactly the list's entry with that key, or nothing": what it answers; that the part of the second form is the eight
-  -- bytes at that entry's position, and where it stands; that an entry which it finds is the list's and has the key, that every entry of the list is found by its key, and that where it finds nothing no entry has the key.
+  -- bytes at that entry's position, and where it stands; that an entry which it finds is the list's and has the key, that every entry of the list is
+  -- found by its key, and that where it finds nothing no entry has the key.
   pub record Looked (k : ℕ) : Type 0 where
     pub answer : lookupCall layout32 standard s k ≡ gives (find k (list layout32 standard s))
     pub part : bytesCall layout32 standard s k ≡ bytesOf s (find k (list layout32 standard s))
@@ -235,7 +236,8 @@ module _ (s : List ℕ) (n : ℕ) (certifies : counted (certify layout32 standar
 
   -- "and for every two bounds the range gives the number of entries that meet both and writes exactly these, in order as far as the lent lists go"
   pub record Ranged (lo hi : Bound) (ks vs : List ℕ) : Type 0 where
-    pub answer : rangeCall layout32 standard s lo hi ks vs ≡ gives (record { written = written (range layout32 standard s lo hi) ks vs; matching = length (range layout32 standard s lo hi) })
+    pub answer : rangeCall layout32 standard s lo hi ks vs
+        ≡ gives (record { written = written (range layout32 standard s lo hi) ks vs; matching = length (range layout32 standard s lo hi) })
     pub keys : rangeKeys layout32 standard s lo hi ks vs ≡ keysAfter (range layout32 standard s lo hi) ks vs
     pub values : rangeValues layout32 standard s lo hi ks vs ≡ valuesAfter (range layout32 standard s lo hi) ks vs
 

@@ -11,11 +11,19 @@ use Rattle.fieldmap.proofs.lookup_bytes.Statement.{statement}
 use Rattle.fieldmap.proofs.lookup_bytes.Tie as tie
 
 -- What the check told: accepted with the count, or refused.
-opened : (c : tie.After-count) → counted (checkArchive layout32 standard (c .before .before .before .before .args .archive .now)) ≡ gives (c .count .given .0 .0)
-opened c = sym (c .before .before .check .ensures) ∙ ap checkOf (c .count .given .1)
+opened : (c : tie.After-count) →
+    let start : tie.Start = search in
+    counted (checkArchive layout32 standard (start .args .archive .now)) ≡ gives (c .count .given .0 .0)
+opened c =
+    let checked : tie.After-check = search in
+    sym (checked .check .ensures) ∙ ap checkOf (c .count .given .1)
 
-shut : (c : tie.After-enum-told) → counted (checkArchive layout32 standard (c .before .before .before .before .args .archive .now)) ≡ refuses (number (c .enum-told .given .0 .0))
-shut c = sym (c .before .before .check .ensures) ∙ ap checkOf (c .enum-told .given .1)
+shut : (c : tie.After-enum-told) →
+    let start : tie.Start = search in
+    counted (checkArchive layout32 standard (start .args .archive .now)) ≡ refuses (number (c .enum-told .given .0 .0))
+shut c =
+    let checked : tie.After-check = search in
+    sym (checked .check .ensures) ∙ ap checkOf (c .enum-told .given .1)
 
 check-requires : tie.Need-check-requires
 check-requires c κs = search needs
@@ -59,7 +67,9 @@ sub-t14 : tie.Need-sub-t14
 sub-t14 c = omega (arith, room-for layout32 standard _ _ (opened (c .before .before)))
 
 pointed-requires : tie.Need-pointed-requires
-pointed-requires c κs = (omega (arith, room-for layout32 standard _ _ (opened (c .before .before))), root-back layout32 standard _ _ (opened (c .before .before)) (c .if1 .left))
+pointed-requires c κs =
+    let accepted = opened (c .before .before) in
+    (omega (arith, room-for layout32 standard _ _ accepted), root-back layout32 standard _ _ accepted (c .if1 .left))
 
 get-bytes-requires : tie.Need-get-bytes-requires
 get-bytes-requires c κs = node layout32 standard _ _ (opened (c .before .before .before)) (c .before .if1 .left) _ (c .pointed .ensures)
