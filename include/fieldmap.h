@@ -9,9 +9,9 @@
  * a pointer to it, which must not be null. No two of the pointers of a call may lead to the same memory, unless both are only read. The
  * pointers to 64-bit numbers must be aligned to 8; an archive may stand at any address.
  *
- * What a function answers. A number below 2^32, or where it refuses FIELDMAP_REFUSED plus the refusal's number, 1 to 18. What the answer has no
- * room for is stored through the pointers that come last. A refused call writes nothing. No other demand is made on what is passed: any
- * bytes, lists, positions and lengths get an answer.
+ * What a function answers. A number below 2^32, or where it refuses FIELDMAP_REFUSED plus the refusal's number, 1 to 18. Two tell no refusal:
+ * fieldmap_lookup_bytes answers 8 or 0, and fieldmap_unpack nothing. What the answer has no room for is stored through the pointers that come
+ * last. A refused call writes nothing. No other demand is made on what is passed: any bytes, lists, positions and lengths get an answer.
  */
 #ifndef FIELDMAP_H
 #define FIELDMAP_H
@@ -79,7 +79,7 @@ uint64_t fieldmap_lookup_bytes(const uint8_t *archive, size_t archive_len, uint6
 
 /*
  * Looks up keys after one check. The value of a key that is found goes to the place of its key in the values; other places keep what they hold,
- * and keys beyond the values' places are not looked up. The number of keys found.
+ * and keys beyond the values' places, or past the first 4,294,967,295, are not looked up. The number of keys found.
  */
 uint64_t fieldmap_lookup_many(
     const uint8_t *archive, size_t archive_len, const uint64_t *keys, size_t keys_len, uint64_t *values, size_t values_len);

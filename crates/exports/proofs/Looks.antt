@@ -14,7 +14,7 @@ use Rattle.format.specs.RelPtr.{at, target}
 use Rattle.format.specs.Check.{counted, checkArchive}
 use Rattle.format.specs.Lookup.{lookup, lookupAt}
 use Rattle.format.specs.Laws.Opened.{gives-inv, refuses-inv, lookup-accepted, lookup-none, lookup-gives}
-use Rattle.exports.specs.Many.{Many, many, store, firstMany, allMany, manyCall, manyValues}
+use Rattle.exports.specs.Many.{Many, many, store, firstMany, mostKeys, sought, allMany, manyCall, manyValues}
 
 -- ---- one key
 
@@ -55,8 +55,8 @@ module _ (look : ℕ → Found) (ks vs : List ℕ) where
     pub first-more : (us′ : List ℕ) (n′ : ℕ) → many us′ n′ ≡ store (look (getD ks i 0)) i (many us n) → many us′ n′ ≡ firstMany look ks vs (i + 1)
     first-more us′ n′ t = t ∙ ap (store (look (getD ks i 0)) i) e ∙ sym (first-suc i) ∙ ap (firstMany look ks vs) (sym (add-one i))
 
-    pub first-all : (m : ℕ) → m ≡ min (length ks) (length vs) → i ≤ m → m ≤ i → many us n ≡ allMany look ks vs
-    first-all m s l g = let z : i ≡ min (length ks) (length vs) = omega arith in e ∙ ap (firstMany look ks vs) z
+    pub first-all : (l m : ℕ) → l ≡ min (length ks) (length vs) → m ≡ min l mostKeys → i ≤ m → m ≤ i → many us n ≡ allMany look ks vs
+    first-all l m el em h g = let z : i ≡ sought ks vs = omega arith in e ∙ ap (firstMany look ks vs) z
 
 -- Lookups that agree leave the same.
 same-first : (f g : ℕ → Found) → ((k : ℕ) → f k ≡ g k) → (ks vs : List ℕ) (n : ℕ) → firstMany f ks vs n ≡ firstMany g ks vs n
@@ -96,7 +96,7 @@ module _ (L : Layout) (M : Limits) (s : List ℕ) where
 
     module _ (look : ℕ → Found) (same : (k : ℕ) → lookup L M s k ≡ look k) (us : List ℕ) (m : ℕ) (w : many us m ≡ allMany look ks vs) where
       all : allMany (lookup L M s) ks vs ≡ many us m
-      all = same-first (lookup L M s) look same ks vs (min (length ks) (length vs)) ∙ sym w
+      all = same-first (lookup L M s) look same ks vs (sought ks vs) ∙ sym w
 
       answers : manyCall L M s ks vs ≡ gives m
       answers = many-accepted ∙ ap (λ (x : Many). gives (x .found)) all
@@ -109,10 +109,10 @@ module _ (L : Layout) (M : Limits) (s : List ℕ) where
       nowhere k = gives-one _ _ (sym (lookup-accepted L M s n e k) ∙ lookup-none L M s n e z k)
 
       pub many-none : manyCall L M s ks vs ≡ gives 0
-      many-none = answers (λ k. nothing) nowhere vs 0 (sym (none-found ks vs (min (length ks) (length vs))))
+      many-none = answers (λ k. nothing) nowhere vs 0 (sym (none-found ks vs (sought ks vs)))
 
       pub many-values-none : manyValues L M s ks vs ≡ vs
-      many-values-none = leaves (λ k. nothing) nowhere vs 0 (sym (none-found ks vs (min (length ks) (length vs))))
+      many-values-none = leaves (λ k. nothing) nowhere vs 0 (sym (none-found ks vs (sought ks vs)))
 
     module _ (z : n ≡ 0 → ⊥) (q : ℕ) (t : target L s (length s - recordSize L) ≡ at q) (us : List ℕ) (m : ℕ)
         (w : many us m ≡ allMany (λ k. lookupAt L s k (nested M) q) ks vs) where

@@ -1,5 +1,6 @@
 -- Answers as one number, and what lent numbers hold afterwards. Assumes nothing: these are definitions.
-use Prim.Native.Nat.{ℕ, zero, suc, _+_}
+use Prim.Native.Nat.{ℕ, zero, suc, _+_, _≤_, _<_}
+use mathlib.Core.Path.{_≡_}
 use Rattle.format.specs.declared.Entry.{Entry}
 use Rattle.format.specs.declared.Bound.{Bound}
 use Rattle.format.specs.declared.Bound.the-variants.{Included, Excluded, Unbounded}
@@ -13,6 +14,11 @@ use Rattle.format.specs.Calls.{Walk, Matched}
 abbrev pub coded : {A : Type 0} → (A → ℕ) → Answer A → ℕ
 coded f (gives a) = f a
 coded f (refuses r) = 4294967296 + r
+
+-- What the number r of a call tells: below 2^32 that something is given, else 2^32 and the number of one of the 18 refusals.
+abbrev pub Tells : {A : Type 0} → ℕ → Answer A → Type 0
+Tells r (gives a) = r < 4294967296
+Tells r (refuses n) = (r ≡ 4294967296 + n) × (1 ≤ n) × (n ≤ 18)
 
 -- What a place that held x holds afterwards: a part of what is given, or x on a refusal.
 abbrev pub stored : {A B : Type 0} → (A → B) → Answer A → B → B

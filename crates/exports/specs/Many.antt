@@ -27,9 +27,17 @@ unfoldable pub firstMany : (ℕ → Found) → List ℕ → List ℕ → ℕ →
 firstMany look ks vs zero = many vs 0
 firstMany look ks vs (suc n) = store (look (getD ks n 0)) n (firstMany look ks vs n)
 
--- What all keys leave that have a place.
+-- The most keys that are looked up, so that the number found is below 2^32.
+abbrev pub mostKeys : ℕ
+mostKeys = 4294967295
+
+-- How many keys are looked up: all that have a place, or the first of them.
+abbrev pub sought : List ℕ → List ℕ → ℕ
+sought ks vs = min (min (length ks) (length vs)) mostKeys
+
+-- What all of them leave.
 abbrev pub allMany : (ℕ → Found) → List ℕ → List ℕ → Many
-allMany look ks vs = firstMany look ks vs (min (length ks) (length vs))
+allMany look ks vs = firstMany look ks vs (sought ks vs)
 
 module _ (L : Layout) (M : Limits) (s ks vs : List ℕ) where
   -- How many keys are found.

@@ -3,7 +3,7 @@ use crate::codes::refused;
 use perimetry::key::Packed;
 ghost use mathlib.Core.Path.{_≡_};
 ghost use Rattle.format.specs.Key.{packKey, fieldsOf};
-ghost use Rattle.exports.specs.Answers.{coded, stored};
+ghost use Rattle.exports.specs.Answers.{coded, Tells, stored};
 
 // Stores the key of an examination's fields and answers 0.
 #[no_mangle]
@@ -16,6 +16,7 @@ pub extern "C" fn fieldmap_pack(
     key: &mut u64,
 ) -> u64
     ensures answer { λ r. ⌜ r ≡ coded (λ k. 0) (packKey examination eye x y presentation) ⌝ }
+    ensures told { λ r. ⌜ Tells r (packKey examination eye x y presentation) ⌝ }
     ensures key { λ r. ⌜ now (key .exit) ≡ stored (λ k. k) (packKey examination eye x y presentation) (now (key .entry)) ⌝ }
 {
     match fieldmap::pack(examination, eye, x, y, presentation) {

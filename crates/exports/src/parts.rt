@@ -6,12 +6,13 @@ use fields::ser::writer::Aligned;
 ghost use mathlib.Core.Path.{_≡_};
 ghost use Rattle.format.specs.RelPtr.{signedOffset, storedOffset, absentOffset};
 ghost use Rattle.format.specs.Align.{alignStep};
-ghost use Rattle.exports.specs.Answers.{coded, stored, stepNext, stepZeros};
+ghost use Rattle.exports.specs.Answers.{coded, Tells, stored, stepNext, stepZeros};
 
 // The signed difference of two positions.
 #[no_mangle]
 pub extern "C" fn fieldmap_signed_offset(from: u64, to: u64, offset: &mut i64) -> u64
     ensures answer { λ r. ⌜ r ≡ coded (λ z. 0) (signedOffset from to) ⌝ }
+    ensures told { λ r. ⌜ Tells r (signedOffset from to) ⌝ }
     ensures offset { λ r. ⌜ now (offset .exit) ≡ stored (λ z. z) (signedOffset from to) (now (offset .entry)) ⌝ }
 {
     match fieldmap::signed_offset(from, to) {
@@ -27,6 +28,7 @@ pub extern "C" fn fieldmap_signed_offset(from: u64, to: u64, offset: &mut i64) -
 #[no_mangle]
 pub extern "C" fn fieldmap_offset32(from: u64, to: u64, offset: &mut i32) -> u64
     ensures answer { λ r. ⌜ r ≡ coded (λ z. 0) (storedOffset 31 from to) ⌝ }
+    ensures told { λ r. ⌜ Tells r (storedOffset 31 from to) ⌝ }
     ensures offset { λ r. ⌜ now (offset .exit) ≡ stored (λ z. z) (storedOffset 31 from to) (now (offset .entry)) ⌝ }
 {
     match fieldmap::offset32(from, to) {
@@ -42,6 +44,7 @@ pub extern "C" fn fieldmap_offset32(from: u64, to: u64, offset: &mut i32) -> u64
 #[no_mangle]
 pub extern "C" fn fieldmap_absent_offset(at: u64, offset: &mut i32) -> u64
     ensures answer { λ r. ⌜ r ≡ coded (λ z. 0) (absentOffset 31 at) ⌝ }
+    ensures told { λ r. ⌜ Tells r (absentOffset 31 at) ⌝ }
     ensures offset { λ r. ⌜ now (offset .exit) ≡ stored (λ z. z) (absentOffset 31 at) (now (offset .entry)) ⌝ }
 {
     match fieldmap::absent_offset(at) {
@@ -57,6 +60,7 @@ pub extern "C" fn fieldmap_absent_offset(at: u64, offset: &mut i32) -> u64
 #[no_mangle]
 pub extern "C" fn fieldmap_align(pos: u64, alignment: u64, next: &mut u64, zeros: &mut u64) -> u64
     ensures answer { λ r. ⌜ r ≡ coded (λ s. 0) (alignStep pos alignment) ⌝ }
+    ensures told { λ r. ⌜ Tells r (alignStep pos alignment) ⌝ }
     ensures next { λ r. ⌜ now (next .exit) ≡ stored stepNext (alignStep pos alignment) (now (next .entry)) ⌝ }
     ensures zeros { λ r. ⌜ now (zeros .exit) ≡ stored stepZeros (alignStep pos alignment) (now (zeros .entry)) ⌝ }
 {

@@ -5,7 +5,7 @@ use fieldmap::RangeAnswer;
 ghost use mathlib.Core.Path.{_≡_};
 ghost use Rattle.format.specs.Layout.{layout32, standard};
 ghost use Rattle.format.specs.Calls.{rangeCall, rangeKeys, rangeValues, columnCall, columnKeys, columnValues};
-ghost use Rattle.exports.specs.Answers.{coded, stored, boundOf, rangeWritten, rangeMatching};
+ghost use Rattle.exports.specs.Answers.{coded, Tells, stored, boundOf, rangeWritten, rangeMatching};
 
 // Writes keys and values of the entries that meet both bounds until the shorter list is full, and stores how many there are. The number written.
 #[no_mangle]
@@ -21,6 +21,8 @@ pub extern "C" fn fieldmap_range(
 ) -> u64
     ensures answer { λ r. ⌜ r ≡ coded rangeWritten
         (rangeCall layout32 standard (now (archive .entry)) (boundOf «lower_kind» lower) (boundOf «upper_kind» upper) (now (keys .entry)) (now (values .entry))) ⌝ }
+    ensures told { λ r. ⌜ Tells r (rangeCall layout32 standard (now (archive .entry)) (boundOf «lower_kind» lower) (boundOf «upper_kind» upper)
+        (now (keys .entry)) (now (values .entry))) ⌝ }
     ensures keys { λ r. ⌜ now (keys .exit)
         ≡ rangeKeys layout32 standard (now (archive .entry)) (boundOf «lower_kind» lower) (boundOf «upper_kind» upper) (now (keys .entry)) (now (values .entry)) ⌝ }
     ensures values { λ r. ⌜ now (values .exit)
@@ -54,6 +56,7 @@ pub extern "C" fn fieldmap_column(
 ) -> u64
     ensures answer { λ r. ⌜ r ≡ coded rangeWritten
         (columnCall layout32 standard (now (archive .entry)) examination eye a b (now (keys .entry)) (now (values .entry))) ⌝ }
+    ensures told { λ r. ⌜ Tells r (columnCall layout32 standard (now (archive .entry)) examination eye a b (now (keys .entry)) (now (values .entry))) ⌝ }
     ensures keys { λ r. ⌜ now (keys .exit)
         ≡ columnKeys layout32 standard (now (archive .entry)) examination eye a b (now (keys .entry)) (now (values .entry)) ⌝ }
     ensures values { λ r. ⌜ now (values .exit)

@@ -9,12 +9,13 @@ ghost use Rattle.format.specs.Layout.{layout32, standard};
 ghost use Rattle.format.specs.Check.{counted, checkArchive};
 ghost use Rattle.format.specs.Certify.{certify};
 ghost use Rattle.format.specs.Calls.{lookupCall, bytesCall, walkCall, walkKeys, walkValues};
-ghost use Rattle.exports.specs.Answers.{coded, stored, foundFlag, partLength, storedFound, entryValue, entryPosition, walkWritten, walkCount};
+ghost use Rattle.exports.specs.Answers.{coded, Tells, stored, foundFlag, partLength, storedFound, entryValue, entryPosition, walkWritten, walkCount};
 
 // The recorded count, or the first fault of 1 to 7.
 #[no_mangle]
 pub extern "C" fn fieldmap_check(archive: &[u8]) -> u64
     ensures { λ r. ⌜ r ≡ coded (λ n. n) (counted (checkArchive layout32 standard (now (archive .entry)))) ⌝ }
+    ensures told { λ r. ⌜ Tells r (counted (checkArchive layout32 standard (now (archive .entry)))) ⌝ }
 {
     counted(fieldmap::check(archive))
 }
@@ -23,6 +24,7 @@ pub extern "C" fn fieldmap_check(archive: &[u8]) -> u64
 #[no_mangle]
 pub extern "C" fn fieldmap_certify(archive: &[u8]) -> u64
     ensures { λ r. ⌜ r ≡ coded (λ n. n) (counted (certify layout32 standard (now (archive .entry)))) ⌝ }
+    ensures told { λ r. ⌜ Tells r (counted (certify layout32 standard (now (archive .entry)))) ⌝ }
 {
     counted(fieldmap::certify(archive))
 }
@@ -36,6 +38,7 @@ pub extern "C" fn fieldmap_lookup(
     position: &mut u64,
 ) -> u64
     ensures answer { λ r. ⌜ r ≡ coded foundFlag (lookupCall layout32 standard (now (archive .entry)) key) ⌝ }
+    ensures told { λ r. ⌜ Tells r (lookupCall layout32 standard (now (archive .entry)) key) ⌝ }
     ensures value { λ r. ⌜ now (value .exit) ≡ storedFound entryValue (lookupCall layout32 standard (now (archive .entry)) key) (now (value .entry)) ⌝ }
     ensures position { λ r. ⌜ now (position .exit)
         ≡ storedFound entryPosition (lookupCall layout32 standard (now (archive .entry)) key) (now (position .entry)) ⌝ }
@@ -80,6 +83,7 @@ pub extern "C" fn fieldmap_walk(
 ) -> u64
     ensures answer { λ r. ⌜ r
         ≡ coded walkWritten (walkCall layout32 standard (now (archive .entry)) (now (keys .entry)) (now (values .entry))) ⌝ }
+    ensures told { λ r. ⌜ Tells r (walkCall layout32 standard (now (archive .entry)) (now (keys .entry)) (now (values .entry))) ⌝ }
     ensures keys { λ r. ⌜ now (keys .exit) ≡ walkKeys layout32 standard (now (archive .entry)) (now (keys .entry)) (now (values .entry)) ⌝ }
     ensures values { λ r. ⌜ now (values .exit) ≡ walkValues layout32 standard (now (archive .entry)) (now (keys .entry)) (now (values .entry)) ⌝ }
     ensures count { λ r. ⌜ now (count .exit)

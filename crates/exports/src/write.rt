@@ -5,12 +5,13 @@ ghost use mathlib.Core.Path.{_≡_};
 ghost use lib.ListN.{length};
 ghost use Rattle.format.specs.Layout.{layout32};
 ghost use Rattle.format.specs.Build.{build, outAfter};
-ghost use Rattle.exports.specs.Answers.{coded};
+ghost use Rattle.exports.specs.Answers.{coded, Tells};
 
 // Writes the given entries as an archive behind the first `header` bytes of the output, which stay. The archive's end.
 #[no_mangle]
 pub extern "C" fn fieldmap_build(out: &mut [u8], header: usize, keys: &[u64], values: &[u64]) -> u64
     ensures answer { λ r. ⌜ r ≡ coded (λ n. n) (build layout32 (now (keys .entry)) (now (values .entry)) header (length (now (out .entry)))) ⌝ }
+    ensures told { λ r. ⌜ Tells r (build layout32 (now (keys .entry)) (now (values .entry)) header (length (now (out .entry)))) ⌝ }
     ensures bytes { λ r. ⌜ now (out .exit) ≡ outAfter layout32 (now (keys .entry)) (now (values .entry)) header (now (out .entry)) ⌝ }
 {
     match fieldmap::build(out, header, keys, values) {

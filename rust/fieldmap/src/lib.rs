@@ -144,7 +144,8 @@ pub fn lookup_bytes(archive: &[u8], key: u64) -> &[u8] {
 
 /// Looks up keys after one check and stores each value that is found at the place of its key. The number of keys found.
 ///
-/// Keys beyond the values' places are not looked up. The place of a key that is not found keeps its content.
+/// Keys beyond the values' places, or past the first 4,294,967,295, are not looked up. The place of a key that is not found keeps its
+/// content.
 ///
 /// # Errors
 ///

@@ -109,7 +109,7 @@ impl fmt::Display for Refusal {
 
 impl core::error::Error for Refusal {}
 
-/// An answer as the library codes it: a number below 2^32, or 2^32 and the refusal's number.
+/// An answer as the library codes it: a number below 2^32, or 2^32 and the refusal's number, 1 to 18.
 pub(crate) fn answer(code: u64) -> Result<usize, Refusal> {
     match u32::try_from(code) {
         Ok(number) => Ok(number as usize),

@@ -7,8 +7,8 @@ use Rattle.format.specs.Check.{counted, checkArchive}
 use Rattle.format.specs.Refusal.{number, gives, refuses, checkOf}
 use Rattle.format.specs.Laws.Opened.{room-for, root-back, node}
 use borrow.Author.Needs.{needs}
-use Rattle.exports.specs.Answers.{coded}
-use Rattle.exports.proofs.Looks.{many-refuses, many-values-refuses, many-none, many-values-none, many-gives, many-values-gives}
+use Rattle.exports.proofs.Given.{code-given, code-refused, told-given, told-refused}
+use Rattle.exports.proofs.Looks.{found-most, many-refuses, many-values-refuses, many-none, many-values-none, many-gives, many-values-gives}
 use Rattle.exports.proofs.many.fieldmap_lookup_many.Statement.{statement}
 use Rattle.exports.proofs.many.fieldmap_lookup_many.Tie as tie
 
@@ -32,8 +32,10 @@ enum-known-count : tie.Need-enum-known-count
 enum-known-count c = search needs
 
 returns : tie.Need-returns
-returns c = let o = opened (c .before .before) in
-    (sym (ap (coded (λ (n : ℕ). n)) (many-none layout32 standard _ _ o _ _ (c .if1 .taken))), sym (many-values-none layout32 standard _ _ o _ _ (c .if1 .taken)))
+returns c =
+    let o = opened (c .before .before) in
+    let e = many-none layout32 standard _ _ o _ _ (c .if1 .taken) in
+    (code-given (λ (n : ℕ). n) e, (told-given e (omega arith), sym (many-values-none layout32 standard _ _ o _ _ (c .if1 .taken))))
 
 sub-t11 : tie.Need-sub-t11
 sub-t11 c = omega (arith, room-for layout32 standard _ _ (opened (c .before .before)))
@@ -45,16 +47,24 @@ look-up-all-requires : tie.Need-look-up-all-requires
 look-up-all-requires c κs = node layout32 standard _ _ (opened (c .before .before .before .before)) (c .before .before .if1 .left) _ (c .before .pointed .ensures)
 
 returns-2 : tie.Need-returns-2
-returns-2 c = let o = shut (c .before .before) in
-    (c .refused .ensures ∙ sym (ap (coded (λ (n : ℕ). n)) (many-refuses layout32 standard _ _ o _ _)), sym (many-values-refuses layout32 standard _ _ o _ _))
+returns-2 c =
+    let o = shut (c .before .before) in
+    let e = many-refuses layout32 standard _ _ o _ _ in
+    let r = c .refused .ensures in
+    (code-refused (λ (n : ℕ). n) e r, (told-refused (c .before .before .why .given .0 .0) e r, sym (many-values-refuses layout32 standard _ _ o _ _)))
 
 same-length : tie.Need-same-length
 same-length c = search needs
 
 returns-3 : tie.Need-returns-3
-returns-3 c = let k = c .before .before .before .before in
-    let e = c .before .before .look-up-all .ensures in
-    (sym (ap (coded (λ (n : ℕ). n)) (many-gives layout32 standard _ _ (opened (k .before .before .before)) _ _ (k .before .if1 .left) _ (k .pointed .ensures) _ _ e)), sym (many-values-gives layout32 standard _ _ (opened (k .before .before .before)) _ _ (k .before .if1 .left) _ (k .pointed .ensures) _ _ e))
+returns-3 c =
+    let k : tie.After-pointed = search in
+    let o = opened (k .before .before .before) in
+    let some = k .before .if1 .left in
+    let w = c .before .before .look-up-all .ensures in
+    let e = many-gives layout32 standard _ _ o _ _ some _ (k .pointed .ensures) _ _ w in
+    let v = many-values-gives layout32 standard _ _ o _ _ some _ (k .pointed .ensures) _ _ w in
+    (code-given (λ (n : ℕ). n) e, (told-given e (omega (arith, found-most _ _ _ _ _ _ w)), sym v))
 
 pub fieldmap-lookup-many-spec : {M : Type 1} → statement M
 fieldmap-lookup-many-spec =

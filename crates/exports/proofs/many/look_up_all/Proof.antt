@@ -22,12 +22,17 @@ abbrev μ-loop : tie.MeasureT-loop
 least-requires : tie.Need-least-requires Inv-loop μ-loop
 least-requires c κs = search needs
 
+least-requires-2 : tie.Need-least-requires-2 Inv-loop μ-loop
+least-requires-2 c κs = search needs
+
 loop-holds : tie.Need-loop-holds Inv-loop μ-loop
 loop-holds c = (search needs, search needs, first-none _ _ _)
 
 look-up-at-requires : tie.Need-look-up-at-requires Inv-loop μ-loop
-look-up-at-requires c κs = let head = c .before .before in
-    (head .before .before .before .before .before .pre, omega (arith, c .before .loop-test .taken, head .before .least .ensures), omega (arith, c .before .loop-test .taken, head .before .least .ensures, head .loop .inv .1), found-most _ _ _ _ _ _ (head .loop .inv .2))
+look-up-at-requires c κs =
+    let head : tie.At-loop Inv-loop μ-loop = search in
+    let start : tie.Start Inv-loop μ-loop = search in
+    (start .pre, search needs, search needs, found-most _ _ _ _ _ _ (head .loop .inv .2))
 
 add-i : tie.Need-add-i Inv-loop μ-loop
 add-i c = search needs
@@ -42,7 +47,10 @@ same-length : tie.Need-same-length Inv-loop μ-loop
 same-length c = search needs
 
 returns : tie.Need-returns Inv-loop μ-loop
-returns c = first-all _ _ _ _ _ _ (c .before .loop .inv .2) _ (c .before .before .least .ensures) (c .before .loop .inv .0) (c .loop-test .left)
+returns c =
+    let head = c .before in
+    let limit = head .before in
+    first-all _ _ _ _ _ _ (head .loop .inv .2) _ _ (limit .before .least .ensures) (limit .least2 .ensures) (head .loop .inv .0) (c .loop-test .left)
 
 pub look-up-all-spec : {M : Type 1} → statement M
 look-up-all-spec =
@@ -51,6 +59,7 @@ look-up-all-spec =
     Inv-loop
     μ-loop
     least-requires
+    least-requires-2
     loop-holds
     look-up-at-requires
     add-i

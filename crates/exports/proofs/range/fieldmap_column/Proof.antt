@@ -2,25 +2,37 @@
 use mir.Facts.{toZ-ofZ}
 use mathlib.Core.Path.{_∙_, sym, ap}
 use borrow.Author.Needs.{needs}
+use Rattle.format.specs.Layout.{layout32, standard}
+use Rattle.format.specs.Bytes.{AllBytes}
+use Rattle.format.specs.Laws.Bounded.{column-fits}
 use Rattle.fieldmap.specs.Answers.{rangeOf}
 use Rattle.exports.specs.Answers.{rangeWritten, rangeMatching}
-use Rattle.exports.proofs.Given.{code-given, code-refused, store-given, store-refused}
+use Rattle.exports.proofs.Given.{code-given, code-refused, told-given, told-refused, store-given, store-refused}
 use Rattle.exports.proofs.range.fieldmap_column.Statement.{statement}
 use Rattle.exports.proofs.range.fieldmap_column.Tie as tie
 
+bytes : (k : tie.After-shared-slice-known) → AllBytes (k .before .args .archive .now)
+bytes k i = k .shared-slice-known .given i .fits
+
 returns : tie.Need-returns
 returns c =
-    let p = c .before .before .before .before .before .before .before .before .column .ensures in
+    let start : tie.Start = search in
+    let call : tie.After-column = search in
+    let p = call .column .ensures in
     let e = sym (p .0) ∙ ap rangeOf (c .before .before .why .given .1) in
-    rw (sym (toZ-ofZ (c .before .before .before .before .before .before .before .before .before .before .before .before .before .before .fits .a)), sym (toZ-ofZ (c .before .before .before .before .before .before .before .before .before .before .before .before .before .before .fits .b)))
-    (code-refused rangeWritten e (c .refused .ensures), (p .1 .0, (p .1 .1, store-refused rangeMatching _ e)))
+    let r = c .refused .ensures in
+    rw (sym (toZ-ofZ (start .fits .a)), sym (toZ-ofZ (start .fits .b)))
+    (code-refused rangeWritten e r, (told-refused (c .before .before .why .given .0 .0) e r, (p .1 .0, (p .1 .1, store-refused rangeMatching _ e))))
 
 returns-2 : tie.Need-returns-2
 returns-2 c =
-    let p = c .before .before .before .before .before .before .before .column .ensures in
+    let start : tie.Start = search in
+    let call : tie.After-column = search in
+    let p = call .column .ensures in
     let e = sym (p .0) ∙ ap rangeOf (c .before .written .given .1) in
-    rw (sym (toZ-ofZ (c .before .before .before .before .before .before .before .before .before .before .before .before .before .fits .a)), sym (toZ-ofZ (c .before .before .before .before .before .before .before .before .before .before .before .before .before .fits .b)))
-    (code-given rangeWritten e, (p .1 .0, (p .1 .1, store-given rangeMatching _ e)))
+    let l = column-fits layout32 standard _ (bytes (search)) _ _ _ _ _ _ _ e in
+    rw (sym (toZ-ofZ (start .fits .a)), sym (toZ-ofZ (start .fits .b)))
+    (code-given rangeWritten e, (told-given e l, (p .1 .0, (p .1 .1, store-given rangeMatching _ e))))
 
 pub fieldmap-column-spec : {M : Type 1} → statement M
 fieldmap-column-spec =

@@ -1,29 +1,37 @@
 -- `exports::range::fieldmap_range` meets its contract. Assumes nothing.
 use mathlib.Core.Path.{_∙_, sym, ap}
 use borrow.Author.Needs.{needs}
+use Rattle.format.specs.Layout.{layout32, standard}
+use Rattle.format.specs.Bytes.{AllBytes}
+use Rattle.format.specs.Laws.Bounded.{range-fits}
 use Rattle.fieldmap.specs.Answers.{rangeOf}
 use Rattle.exports.specs.Answers.{rangeWritten, rangeMatching}
-use Rattle.exports.proofs.Given.{code-given, code-refused, store-given, store-refused}
+use Rattle.exports.proofs.Given.{code-given, code-refused, told-given, told-refused, store-given, store-refused}
 use Rattle.exports.proofs.range.fieldmap_range.Statement.{statement}
 use Rattle.exports.proofs.range.fieldmap_range.Tie as tie
 
+bytes : (k : tie.After-shared-slice-known) → AllBytes (k .before .args .archive .now)
+bytes k i = k .shared-slice-known .given i .fits
+
 returns : tie.Need-returns
 returns c =
-    let k = c .before .before .before .before .before .before .before .before in
-    let b = k .before .before .before in
-    let p = k .range .ensures in
+    let call : tie.After-range = search in
+    let b : tie.After-bound2 = search in
+    let p = call .range .ensures in
     let e = sym (p .0) ∙ ap rangeOf (c .before .before .why .given .1) in
+    let r = c .refused .ensures in
     rw (sym (b .before .bound .ensures), sym (b .bound2 .ensures))
-    (code-refused rangeWritten e (c .refused .ensures), (p .1 .0, (p .1 .1, store-refused rangeMatching _ e)))
+    (code-refused rangeWritten e r, (told-refused (c .before .before .why .given .0 .0) e r, (p .1 .0, (p .1 .1, store-refused rangeMatching _ e))))
 
 returns-2 : tie.Need-returns-2
 returns-2 c =
-    let k = c .before .before .before .before .before .before .before in
-    let b = k .before .before .before in
-    let p = k .range .ensures in
+    let call : tie.After-range = search in
+    let b : tie.After-bound2 = search in
+    let p = call .range .ensures in
     let e = sym (p .0) ∙ ap rangeOf (c .before .written .given .1) in
+    let l = range-fits layout32 standard _ (bytes (search)) _ _ _ _ _ e in
     rw (sym (b .before .bound .ensures), sym (b .bound2 .ensures))
-    (code-given rangeWritten e, (p .1 .0, (p .1 .1, store-given rangeMatching _ e)))
+    (code-given rangeWritten e, (told-given e l, (p .1 .0, (p .1 .1, store-given rangeMatching _ e))))
 
 pub fieldmap-range-spec : {M : Type 1} → statement M
 fieldmap-range-spec =

@@ -2,12 +2,22 @@
 use Prim.Native.Nat.{ℕ}
 use mathlib.Core.Path.{_∙_, ap}
 use borrow.Author.Needs.{needs}
+use Rattle.format.specs.Layout.{layout32, standard}
+use Rattle.format.specs.Bytes.{AllBytes}
+use Rattle.format.specs.Laws.Bounded.{count-fits}
 use Rattle.exports.specs.Answers.{coded}
+use Rattle.exports.proofs.Given.{told-counted}
 use Rattle.exports.proofs.read.fieldmap_check.Statement.{statement}
 use Rattle.exports.proofs.read.fieldmap_check.Tie as tie
 
+bytes : (k : tie.After-shared-slice-known) → AllBytes (k .before .args .archive .now)
+bytes k i = k .shared-slice-known .given i .fits
+
 returns : tie.Need-returns
-returns c = c .counted .ensures ∙ ap (coded (λ (n : ℕ). n)) (c .before .check .ensures)
+returns c =
+    let e = c .before .check .ensures in
+    let a = c .counted .ensures ∙ ap (coded (λ (n : ℕ). n)) e in
+    (a, told-counted (c .before .check .result) e (count-fits layout32 standard _ (bytes (c .before .before))) a)
 
 pub fieldmap-check-spec : {M : Type 1} → statement M
 fieldmap-check-spec = tie.close (tie.spec (search needs) (search needs) returns)

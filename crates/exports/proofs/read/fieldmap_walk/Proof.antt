@@ -1,23 +1,33 @@
 -- `exports::read::fieldmap_walk` meets its contract. Assumes nothing.
 use mathlib.Core.Path.{_∙_, sym, ap}
 use borrow.Author.Needs.{needs}
+use Rattle.format.specs.Layout.{layout32, standard}
+use Rattle.format.specs.Bytes.{AllBytes}
+use Rattle.format.specs.Laws.Bounded.{walk-fits}
 use Rattle.fieldmap.specs.Answers.{walkOf}
 use Rattle.exports.specs.Answers.{walkWritten, walkCount}
-use Rattle.exports.proofs.Given.{code-given, code-refused, store-given, store-refused}
+use Rattle.exports.proofs.Given.{code-given, code-refused, told-given, told-refused, store-given, store-refused}
 use Rattle.exports.proofs.read.fieldmap_walk.Statement.{statement}
 use Rattle.exports.proofs.read.fieldmap_walk.Tie as tie
 
+bytes : (k : tie.After-shared-slice-known) → AllBytes (k .before .args .archive .now)
+bytes k i = k .shared-slice-known .given i .fits
+
 returns : tie.Need-returns
 returns c =
-    let p = c .before .before .before .before .before .before .before .before .walk .ensures in
+    let call : tie.After-walk = search in
+    let p = call .walk .ensures in
     let e = sym (p .0) ∙ ap walkOf (c .before .before .why .given .1) in
-    (code-refused walkWritten e (c .refused .ensures), (p .1 .0, (p .1 .1, store-refused walkCount _ e)))
+    let r = c .refused .ensures in
+    (code-refused walkWritten e r, (told-refused (c .before .before .why .given .0 .0) e r, (p .1 .0, (p .1 .1, store-refused walkCount _ e))))
 
 returns-2 : tie.Need-returns-2
 returns-2 c =
-    let p = c .before .before .before .before .before .before .before .walk .ensures in
+    let call : tie.After-walk = search in
+    let p = call .walk .ensures in
     let e = sym (p .0) ∙ ap walkOf (c .before .written .given .1) in
-    (code-given walkWritten e, (p .1 .0, (p .1 .1, store-given walkCount _ e)))
+    let l = walk-fits layout32 standard _ (bytes (search)) _ _ _ e in
+    (code-given walkWritten e, (told-given e l, (p .1 .0, (p .1 .1, store-given walkCount _ e))))
 
 pub fieldmap-walk-spec : {M : Type 1} → statement M
 fieldmap-walk-spec =
