@@ -1,14 +1,14 @@
 -- Laws of the text: bytes put behind others, digits, lines, and the first line. Assumes nothing.
 use Prim.Native.Nat.{ℕ, zero, suc, _+_, _-_, _/_, _%_, _^_, _<_, _≤_}
-use mathlib.Core.Path.{_≡_, sym, _∙_}
+use mathlib.Core.Path.{_≡_, sym, ap, _∙_}
 use mathlib.Core.List.{List, [], _∷_, _++_, append-assoc, append-nil}
 use native.Mathlib.Numerals.{add-one}
 use native.Mathlib.Omega.{arith}
 use native.Mathlib.Decide.{decLt}
 use native.Mathlib.Nat.{one-le-pow, pow-le-pow-right}
 use borrow.Author.Tests.{le-ltb, lt-ltb}
-use lib.ListN.{length, take, set, getD}
-use lib.Seq.{take-suc, take-suc-set}
+use lib.ListN.{length, take, drop, set, getD, take-append-drop}
+use lib.Seq.{take-suc, take-suc-set, length-take-le, drop-drop}
 use Rattle.io.specs.Digits.{glyph, digits, Fewest}
 use Rattle.format.specs.Layout.{layout32, standard}
 use Rattle.format.specs.Refusal.{gives, refuses}
@@ -24,6 +24,16 @@ pub one-more : (t t₀ bs : List ℕ) (at i : ℕ) → at + i < length t → i <
 one-more t t₀ bs at i h k e =
     let w : at + (i + 1) ≡ suc (at + i) = omega arith in
     rw (w, take-suc-set t (at + i) (getD bs i 0) h, e, add-one i, take-suc bs i 0 k) (append-assoc (take at t₀) (take i bs) (getD bs i 0 ∷ []))
+
+-- What stays from one place on stays from a later one on.
+pub stays : (a b : ℕ) (x y : List ℕ) → a ≤ b → drop a x ≡ drop a y → drop b x ≡ drop b y
+stays a b x y h e =
+    let w : a + (b - a) ≡ b = omega arith in
+    rw w at (sym (drop-drop (b - a) a x) ∙ ap (drop (b - a)) e ∙ drop-drop (b - a) a y)
+
+-- The first r bytes and those behind them.
+pub whole : {p : List ℕ} (x y : List ℕ) (r : ℕ) → r ≤ length x → take r x ≡ p → drop r x ≡ drop r y → (r ≡ length p) × (x ≡ p ++ drop r y)
+whole x y r h e f = (sym (length-take-le r x h) ∙ ap length e, sym (take-append-drop r x) ∙ rw (e, f))
 
 -- ---- digits
 

@@ -15,6 +15,9 @@ use Rattle.format.specs.Build.{pairs, fill, logFrom, height, lastLevel, treeOf,
 use Rattle.listing.specs.Listing.{decimal, title, entryLines, entries, listing, printed}
 
 -- `certified 1` and `7 9` in ASCII, each with its line's end.
-pub case-6 : printed (archive layout32 [] (pairs (7 ∷ []) (9 ∷ []))) ≡ 99 ∷ 101 ∷ 114 ∷ 116 ∷ 105 ∷ 102 ∷ 105 ∷ 101 ∷ 100 ∷ 32 ∷ 49 ∷ 10 ∷ 55 ∷ 32 ∷ 57 ∷ 10 ∷ []
-unfolding fitSigned signedOffset storedOffset absentOffset isAlignment alignStep decimal title entryLines entries listing printed certify hollow anyBody hollowAt checkBody enter checkAt checkNode root recorded checkRoot checkArchive slots listBody listAt list kind slot target absent twos ofTwos leAt leBytes nested standard head leafBytes innerBytes fill logFrom height lastLevel treeOf behind archive
+pub case-6 : printed (archive layout32 [] (pairs (7 ∷ []) (9 ∷ [])))
+    ≡ 99 ∷ 101 ∷ 114 ∷ 116 ∷ 105 ∷ 102 ∷ 105 ∷ 101 ∷ 100 ∷ 32 ∷ 49 ∷ 10 ∷ 55 ∷ 32 ∷ 57 ∷ 10 ∷ []
+unfolding fitSigned signedOffset storedOffset absentOffset isAlignment alignStep decimal title entryLines entries listing printed certify
+    hollow anyBody hollowAt checkBody enter checkAt checkNode root recorded checkRoot checkArchive slots listBody listAt list kind slot
+    target absent twos ofTwos leAt leBytes nested standard head leafBytes innerBytes fill logFrom height lastLevel treeOf behind archive
 case-6 = refl

@@ -5,8 +5,7 @@ use format::CheckAnswer;
 ghost use mathlib.Core.Path.{_≡_};
 ghost use mathlib.Core.List.{[], _∷_, _++_};
 ghost use Prim.Native.Nat.{_+_, _*_, _≤_};
-ghost use lib.ListN.{length, take};
-ghost use Rattle.io.specs.Counts.{Counts};
+ghost use lib.ListN.{length, take, drop};
 ghost use Rattle.listing.specs.Listing.{decimal, title, titleLine, entryLine, firstLines, listing, printed};
 
 // The longest input that is listed, in bytes.
@@ -38,11 +37,12 @@ fn title_of(archive: &[u8]) -> Title
     }
 }
 
-// Puts bytes into the text from a place on. The place after them.
+// Puts bytes into the text from a place on. The place after them; the bytes from there on stay.
 fn put(text: &mut [u8], at: usize, bytes: &[u8]) -> usize
     requires { ⌜ at + length (now bytes) ≤ length (now text) ⌝ }
     ensures end { λ r. ⌜ r ≡ at + length (now (bytes .entry)) ⌝ }
     ensures text { λ r. ⌜ take r (now (text .exit)) ≡ take at (now (text .entry)) ++ now (bytes .entry) ⌝ }
+    ensures rest { λ r. ⌜ drop r (now (text .exit)) ≡ drop r (now (text .entry)) ⌝ }
 {
     let mut i = 0;
     while i < bytes.len() {
@@ -54,8 +54,9 @@ fn put(text: &mut [u8], at: usize, bytes: &[u8]) -> usize
 
 fn put_decimal(text: &mut [u8], at: usize, number: u64) -> usize
     requires { ⌜ at + 20 ≤ length (now text) ⌝ }
-    ensures end { λ r. ⌜ r ≤ at + 20 ⌝ }
+    ensures end { λ r. ⌜ (at ≤ r) × (r ≤ at + 20) ⌝ }
     ensures text { λ r. ⌜ take r (now (text .exit)) ≡ take at (now (text .entry)) ++ decimal number ⌝ }
+    ensures rest { λ r. ⌜ drop r (now (text .exit)) ≡ drop r (now (text .entry)) ⌝ }
 {
     let mut digits = [0u8; 20];
     let count = io::decimal(number, &mut digits);
@@ -67,6 +68,7 @@ fn put_counted(text: &mut [u8], word: &[u8], number: u64) -> usize
     requires { ⌜ length (now word) + 21 ≤ length (now text) ⌝ }
     ensures end { λ r. ⌜ r ≤ length (now (word .entry)) + 21 ⌝ }
     ensures text { λ r. ⌜ take r (now (text .exit)) ≡ now (word .entry) ++ decimal number ++ (10 ∷ []) ⌝ }
+    ensures rest { λ r. ⌜ drop r (now (text .exit)) ≡ drop r (now (text .entry)) ⌝ }
 {
     let after_word = put(text, 0, word);
     let after_number = put_decimal(text, after_word, number);
@@ -77,6 +79,7 @@ fn put_title(text: &mut [u8], title: Title) -> usize
     requires { ⌜ 31 ≤ length (now text) ⌝ }
     ensures end { λ r. ⌜ r ≤ 31 ⌝ }
     ensures text { λ r. ⌜ take r (now (text .exit)) ≡ titleLine title ⌝ }
+    ensures rest { λ r. ⌜ drop r (now (text .exit)) ≡ drop r (now (text .entry)) ⌝ }
 {
     match title {
         Title::Certified(count) => put_counted(text, b"certified ", count),
@@ -88,8 +91,9 @@ fn put_title(text: &mut [u8], title: Title) -> usize
 // The line of an entry.
 fn put_entry(text: &mut [u8], at: usize, key: u64, value: u64) -> usize
     requires { ⌜ at + 42 ≤ length (now text) ⌝ }
-    ensures end { λ r. ⌜ r ≤ at + 42 ⌝ }
+    ensures end { λ r. ⌜ (at ≤ r) × (r ≤ at + 42) ⌝ }
     ensures text { λ r. ⌜ take r (now (text .exit)) ≡ take at (now (text .entry)) ++ entryLine key value ⌝ }
+    ensures rest { λ r. ⌜ drop r (now (text .exit)) ≡ drop r (now (text .entry)) ⌝ }
 {
     let after_key = put_decimal(text, at, key);
     let after_space = put(text, after_key, b" ");
@@ -100,9 +104,10 @@ fn put_entry(text: &mut [u8], at: usize, key: u64, value: u64) -> usize
 // The lines of the first `count` entries.
 fn put_entries(text: &mut [u8], at: usize, keys: &[u64], values: &[u64], count: usize) -> usize
     requires { ⌜ (at + 42 * count ≤ length (now text)) × (count ≤ length (now keys)) × (count ≤ length (now values)) ⌝ }
-    ensures end { λ r. ⌜ r ≤ at + 42 * count ⌝ }
+    ensures end { λ r. ⌜ (at ≤ r) × (r ≤ at + 42 * count) ⌝ }
     ensures text { λ r. ⌜ take r (now (text .exit))
         ≡ take at (now (text .entry)) ++ firstLines (now (keys .entry)) (now (values .entry)) count ⌝ }
+    ensures rest { λ r. ⌜ drop r (now (text .exit)) ≡ drop r (now (text .entry)) ⌝ }
 {
     let mut end = at;
     let mut i = 0;
@@ -118,6 +123,7 @@ fn put_listing(text: &mut [u8], archive: &[u8]) -> usize
     requires { ⌜ (length (now archive) ≤ 65536) × (172063 ≤ length (now text)) ⌝ }
     ensures end { λ r. ⌜ r ≤ 172063 ⌝ }
     ensures text { λ r. ⌜ take r (now (text .exit)) ≡ listing (now (archive .entry)) ⌝ }
+    ensures rest { λ r. ⌜ drop r (now (text .exit)) ≡ drop r (now (text .entry)) ⌝ }
 {
     let mut keys = [0u64; MOST_ENTRIES];
     let mut values = [0u64; MOST_ENTRIES];
@@ -128,10 +134,10 @@ fn put_listing(text: &mut [u8], archive: &[u8]) -> usize
     }
 }
 
-// The text of an input of any length. Its length.
+// The text of an input of any length. Its length; the bytes behind the text stay.
 pub fn put_text(text: &mut [u8; LONGEST_TEXT], input: &[u8]) -> usize
-    ensures end { λ r. ⌜ Counts r (now (text .exit)) ⌝ }
-    ensures text { λ r. ⌜ take r (now (text .exit)) ≡ printed (now (input .entry)) ⌝ }
+    ensures end { λ r. ⌜ r ≡ length (printed (now (input .entry))) ⌝ }
+    ensures text { λ r. ⌜ now (text .exit) ≡ printed (now (input .entry)) ++ drop r (now (text .entry)) ⌝ }
 {
     if input.len() > LONGEST_INPUT {
         put_title(text, Title::Refused(1))

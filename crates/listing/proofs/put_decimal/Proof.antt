@@ -17,7 +17,7 @@ returns c =
     let digits : tie.After-decimal = search in
     let fewest = digits .decimal .ensures .1 .0 in
     let small = start .fits .number .fits in
-    (omega (arith, twenty-digits _ _ small fewest), cc (decimal-is _ _ small fewest))
+    ((omega arith, omega (arith, twenty-digits _ _ small fewest)), (cc (decimal-is _ _ small fewest), cc))
 
 pub put-decimal-spec : {M : Type 1} → statement M
 put-decimal-spec =

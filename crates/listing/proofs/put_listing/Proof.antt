@@ -7,6 +7,7 @@ use lib.ListN.{length, replicate, length-replicate}
 use borrow.Author.Needs.{needs}
 use Rattle.fieldmap.specs.Answers.{walkOf}
 use Rattle.listing.specs.Listing.{titleLine}
+use Rattle.listing.proofs.Texts.{stays}
 use Rattle.listing.proofs.Listed.{listing-refused, Listed, listed, joined}
 use Rattle.listing.proofs.put_listing.Statement.{statement}
 use Rattle.listing.proofs.put_listing.Tie as tie
@@ -18,10 +19,10 @@ zeros = replicate 4096 0
 zeros-long : 4096 ≤ length zeros
 zeros-long = omega (arith, length-replicate {A = ℕ} 4096 0)
 
--- What the text is after a walk that is not refused.
 abbrev start : tie.After-written → tie.Start
 start w = search
 
+-- What the text is after a walk that is not refused.
 listed-after : (w : tie.After-written) → Listed (start w .args .archive .now) zeros zeros (w .written .given .0 .0)
 listed-after w =
     let walked : tie.After-walk = search in
@@ -39,8 +40,11 @@ returns c =
     let walked : tie.After-walk = search in
     let titled : tie.After-put-title = search in (
       omega arith,
-      titled .put-title .ensures .1 ∙ ap titleLine (titled .before .title-of .ensures)
-          ∙ listing-refused _ _ _ _ (sym (ap walkOf (c .enum-told .given .1)) ∙ walked .walk .ensures .0),
+      (
+        titled .put-title .ensures .1 .0 ∙ ap titleLine (titled .before .title-of .ensures)
+            ∙ listing-refused _ _ _ _ (sym (ap walkOf (c .enum-told .given .1)) ∙ walked .walk .ensures .0),
+        titled .put-title .ensures .1 .1,
+      ),
     )
 
 returns-2 : tie.Need-returns-2
@@ -51,8 +55,12 @@ returns-2 c =
     let titled : tie.After-put-title = search in
     let k = listed-after wrote in (
       omega (arith, k .few, titled .put-title .ensures .0, entries .put-entries .ensures .0),
-      joined _ _ _ k (entries .put-entries .ensures .1) (titled .put-title .ensures .1 ∙ ap titleLine (titled .before .title-of .ensures))
-          (walked .walk .ensures .1 .0) (walked .walk .ensures .1 .1),
+      (
+        joined _ _ _ k (entries .put-entries .ensures .1 .0) (titled .put-title .ensures .1 .0 ∙ ap titleLine (titled .before .title-of .ensures))
+            (walked .walk .ensures .1 .0) (walked .walk .ensures .1 .1),
+        entries .put-entries .ensures .1 .1
+            ∙ stays (titled .put-title .result) (entries .put-entries .result) _ _ (entries .put-entries .ensures .0 .0) (titled .put-title .ensures .1 .1),
+      ),
     )
 
 pub put-listing-spec : {M : Type 1} → statement M
