@@ -28,7 +28,8 @@ use Rattle.format.specs.Laws.Opened.{lookup-refuses, lookup-accepted, wa
 
 -- ---- answers
 
-given : {A : Type 0} {a : A} {r : ℕ} → gives a ≡ refuses r → ⊥
+-- What is given is not refused.
+pub given : {A : Type 0} {a : A} {r : ℕ} → gives a ≡ refuses r → ⊥
 given e = let z : _≡_ {A = ℕ} 0 1 = cc in absurd (omega arith)
 
 same-number : {A : Type 0} {q r : ℕ} → _≡_ {A = Answer A} (refuses q) (refuses r) → q ≡ r

@@ -24,9 +24,7 @@ use Rattle.format.specs.Laws.Ranged.{select-few}
 use Rattle.format.specs.Laws.Opened.{is-archive, is-recorded, not-long, walk-refuses, walk-accepted, certified-accepts}
 use Rattle.format.specs.Laws.Opened.{range-refuses, range-certified, column-ranges, column-uncertified, column-refused}
 use Rattle.format.specs.Laws.Built32.{build-certifies}
-
-never : {A : Type 0} {r : ℕ} {x : A} → refuses r ≡ gives x → ⊥
-never e = let z : _≡_ {A = ℕ} 0 1 = cc in omega arith
+use Rattle.format.specs.Laws.CallRefusals.{given}
 
 module _ (L : Layout) (M : Limits) (s : List ℕ) (b : AllBytes s) where
   module _ (n : ℕ) (e : counted (checkArchive L M s) ≡ gives n) where
@@ -45,7 +43,7 @@ module _ (L : Layout) (M : Limits) (s : List ℕ) (b : AllBytes s) where
         by (accepted n t) ea =
             let ew : written (list L M s) ks vs ≡ w .written = cc (walk-accepted L M s n (ap counted ea) ks vs) in
             omega (arith, list-fits n (ap counted ea))
-        by (refused r) ea = absurd (never (sym (walk-refuses L M s r (ap counted ea) ks vs) ∙ e))
+        by (refused r) ea = absurd (given (sym e ∙ walk-refuses L M s r (ap counted ea) ks vs))
 
     pub range-fits : (lo hi : Bound) (m : Matched) → rangeCall L M s lo hi ks vs ≡ gives m → m .written < 256 ^ pointer L
     unfolding range
@@ -55,12 +53,12 @@ module _ (L : Layout) (M : Limits) (s : List ℕ) (b : AllBytes s) where
         by (accepted n t) ea =
             let ew : written (range L M s lo hi) ks vs ≡ m .written = cc (range-certified L M s n (ap counted ea) lo hi ks vs) in
             omega (arith, list-fits n (certified-accepts L M s n (ap counted ea)), select-few (matches lo hi) (list L M s))
-        by (refused r) ea = absurd (never (sym (range-refuses L M s r (ap counted ea) lo hi ks vs) ∙ e))
+        by (refused r) ea = absurd (given (sym e ∙ range-refuses L M s r (ap counted ea) lo hi ks vs))
 
     module _ (exam eye : ℕ) (x y : ℤ) (m : Matched) (e : columnCall L M s exam eye x y ks vs ≡ gives m) where
       no-column : (q : ℕ) → columnBounds exam eye x y ≡ refuses q → (a : Checked) → certify L M s ≡ a → ⊥
-      no-column q ec (accepted n t) ea = never (sym (column-refused L M s exam eye x y ks vs q ec n (ap counted ea)) ∙ e)
-      no-column q ec (refused r) ea = never (sym (column-uncertified L M s exam eye x y ks vs q ec r (ap counted ea)) ∙ e)
+      no-column q ec (accepted n t) ea = given (sym e ∙ column-refused L M s exam eye x y ks vs q ec n (ap counted ea))
+      no-column q ec (refused r) ea = given (sym e ∙ column-uncertified L M s exam eye x y ks vs r (ap counted ea))
 
       pub column-fits : m .written < 256 ^ pointer L
       column-fits = by (columnBounds exam eye x y) refl
