@@ -16,7 +16,7 @@ const LONGEST_INPUT: usize = 65536;
 const MOST_ENTRIES: usize = 4096;
 
 // Bytes for the longest text: a first line has at most 31, the line of an entry at most 42.
-pub const LONGEST_TEXT: usize = 31 + 42 * MOST_ENTRIES;
+const LONGEST_TEXT: usize = 31 + 42 * MOST_ENTRIES;
 
 // What the first line says: certified or only accepted, with the recorded count, or refused, with the refusal's number.
 enum Title {
@@ -135,7 +135,7 @@ fn put_listing(text: &mut [u8], archive: &[u8]) -> usize
 }
 
 // The text of an input of any length. Its length; the bytes behind the text stay.
-pub fn put_text(text: &mut [u8; LONGEST_TEXT], input: &[u8]) -> usize
+fn put_text(text: &mut [u8; LONGEST_TEXT], input: &[u8]) -> usize
     ensures end { λ r. ⌜ r ≡ length (printed (now (input .entry))) ⌝ }
     ensures text { λ r. ⌜ now (text .exit) ≡ printed (now (input .entry)) ++ drop r (now (text .entry)) ⌝ }
 {
