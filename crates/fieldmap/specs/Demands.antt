@@ -20,7 +20,7 @@ use Rattle.format.specs.Refusal.{Answer, gives, refuses, RefusesBy}
 use Rattle.format.specs.Bytes.{AllWords}
 use Rattle.format.specs.RelPtr.{at, target, signedOffset, storedOffset, absentOffset}
 use Rattle.format.specs.Align.{alignStep}
-use Rattle.format.specs.Key.{packKey}
+use Rattle.format.specs.Key.{packKey, fieldsOf}
 use Rattle.format.specs.Check.{counted, root, recorded, checkArchive}
 use Rattle.format.specs.Entries.{list}
 use Rattle.format.specs.Reachable.{Field, Lands, Apart}
@@ -39,10 +39,11 @@ use Rattle.format.specs.Laws.Archive.{field-lands, field-apart, field-once, lis
 use Rattle.format.specs.Laws.Certify.{Certified, lookup-certified}
 use Rattle.format.specs.Laws.Opened.{certify-refuses, lookup-refuses, bytes-refuses, place-refuses, walk-refuses, walk-keys-refuses, walk-values-refuses, range-refuses, range-keys-refuses, range-values-refuses, is-recorded, is-archive, lookup-accepted, bytes-accepted, place-accepted, walk-accepted, walk-keys-accepted, walk-values-accepted, certified-exactly, is-certified, certified-accepts, range-certified, range-keys-certified, range-values-certified, column-uncertified}
 use Rattle.format.specs.Laws.RangeIter.{range-yields}
+use Rattle.format.specs.Laws.Key.{pack-unpack}
 use Rattle.format.specs.Laws.Built32.{Taken, taken, taken-gives, build-certifies, build-output, build-archive, Offsets, build-emplaces}
 use Rattle.format.specs.Laws.Streaming.{never-panics, streamed-archive}
 
--- ---- demand 1: "gets an answer or a listed refusal .. and a refusal changes no lent buffer". `unpack` refuses nothing and is lent nothing.
+-- ---- demand 1: "gets an answer or a listed refusal .. and a refusal changes no lent buffer"
 
 -- Check refuses only by 1 to 7, certify by 1 to 9.
 pub demand-1-check : (s : List ℕ) → RefusesBy 1 7 (counted (checkArchive layout32 standard s))
@@ -52,25 +53,25 @@ pub demand-1-certify : (s : List ℕ) → RefusesBy 1 9 (counted (certify layout
 demand-1-certify s = certify-by layout32 standard s
 
 -- What check refuses, every reader refuses, by the same number; what certify refuses, range and column.
-pub record Shut (s : List ℕ) (r : ℕ) : Type 0 where
+pub record CheckRefused (s : List ℕ) (r : ℕ) : Type 0 where
   pub certifying : counted (certify layout32 standard s) ≡ refuses r
   pub lookup : (k : ℕ) → lookupCall layout32 standard s k ≡ refuses r
   pub walk : (ks vs : List ℕ) → walkCall layout32 standard s ks vs ≡ refuses r
 
-pub demand-1-shut : (s : List ℕ) (r : ℕ) → counted (checkArchive layout32 standard s) ≡ refuses r → Shut s r
-demand-1-shut s r e =
+pub demand-1-check-refused : (s : List ℕ) (r : ℕ) → counted (checkArchive layout32 standard s) ≡ refuses r → CheckRefused s r
+demand-1-check-refused s r e =
     record {
       certifying = certify-refuses layout32 standard s r e;
       lookup = lookup-refuses layout32 standard s r e;
       walk = walk-refuses layout32 standard s r e;
     }
 
-pub record Uncertified (s : List ℕ) (r : ℕ) : Type 0 where
+pub record CertifyRefused (s : List ℕ) (r : ℕ) : Type 0 where
   pub range : (lo hi : Bound) (ks vs : List ℕ) → rangeCall layout32 standard s lo hi ks vs ≡ refuses r
   pub column : (exam eye : ℕ) (a b : ℤ) (ks vs : List ℕ) → columnCall layout32 standard s exam eye a b ks vs ≡ refuses r
 
-pub demand-1-uncertified : (s : List ℕ) (r : ℕ) → counted (certify layout32 standard s) ≡ refuses r → Uncertified s r
-demand-1-uncertified s r e =
+pub demand-1-certify-refused : (s : List ℕ) (r : ℕ) → counted (certify layout32 standard s) ≡ refuses r → CertifyRefused s r
+demand-1-certify-refused s r e =
     record {
       range = range-refuses layout32 standard s r e;
       column = λ exam eye a b ks vs. column-uncertified layout32 standard s exam eye a b ks vs r e;
@@ -149,6 +150,10 @@ demand-1-align pos alignment = align-by pos alignment
 
 pub demand-1-pack : (exam eye : ℕ) (x y : ℤ) (presentation : ℕ) → RefusesBy 18 18 (packKey exam eye x y presentation)
 demand-1-pack exam eye x y presentation = pack-by exam eye x y presentation
+
+-- Unpacking refuses nothing: every key has fields, and those pack to it again.
+pub demand-1-unpack : (k : ℕ) → k < 2 ^ 64 → let f = fieldsOf k in packKey (f .examination) (f .eye) (f .x) (f .y) (f .presentation) ≡ gives k
+demand-1-unpack k l = pack-unpack k l
 
 -- ---- demand 2: "they equal the crate's .. proved from its definitions". The definitions of check, lookup and walk are transliterations of the
 -- crate's `verify`, `get_key_value_raw` and `visit_raw`; the range and the builder are proved equal to theirs.
