@@ -31,9 +31,10 @@ opened c = sym (exact (c .before .before)) ∙ ap columnsOf (c .c .given .1)
 returns : tie.Need-returns
 returns c =
     let e = shut (c .before .before .before .before .before) in
-    let u = sym (c .before .before .before .certify .ensures) ∙ ap checkOf (c .before .first .given .1) in
-    (sym (column-uncertified layout32 standard _ _ _ _ _ _ _ _ u),
-    (sym (column-keys-refused layout32 standard _ _ _ _ _ _ _ _ e), sym (column-values-refused layout32 standard _ _ _ _ _ _ _ _ e)))
+    let u = sym (c .before .before .before .certify .ensures) ∙ ap checkOf (c .before .first .given .1) in (
+      sym (column-uncertified layout32 standard _ _ _ _ _ _ _ _ u),
+      (sym (column-keys-refused layout32 standard _ _ _ _ _ _ _ _ e), sym (column-values-refused layout32 standard _ _ _ _ _ _ _ _ e)),
+    )
 
 returns-2 : tie.Need-returns-2
 returns-2 c =
