@@ -2,9 +2,9 @@
 -- each lent list afterwards, with a definition of `format` at `layout32` and `standard`; the theorems speak of these definitions, for all arguments.
 -- Assumes nothing.
 use Prim.Native.Nat.{ℕ, _+_, _^_, _<_, _≤_}
-use mathlib.Core.Path.{_≡_, refl, sym, _∙_, ap}
+use mathlib.Core.Path.{_≡_, sym, _∙_, ap}
 use mathlib.Core.Logic.{_≢_, _↔_, _⊎_}
-use mathlib.Core.Bool.{true, false}
+use mathlib.Core.Bool.{false}
 use mathlib.Core.List.{List, [], map, _++_}
 use native.Mathlib.Omega.{arith}
 use lib.Dec.{lit≤}
@@ -12,7 +12,6 @@ use lib.ListN.{length, take, drop}
 use lib.IntN.{ℤ}
 use lib.Seq.{length-take-le}
 use Rattle.format.specs.declared.Entry.{Entry}
-use Rattle.format.specs.declared.Found.{Found}
 use Rattle.format.specs.declared.Found.the-variants.{Entry as found, Nothing as nothing}
 use Rattle.format.specs.declared.Bound.{Bound}
 use Rattle.format.specs.Layout.{layout32, standard}
@@ -36,7 +35,7 @@ use Rattle.format.specs.Calls.{lookupCall, bytesCall, placeCall, walkCall, walk
 use Rattle.format.specs.Laws.Find.{In, find-found, find-nothing, find-one}
 use Rattle.format.specs.Laws.CallRefusals.{check-by, certify-by, lookup-refused, walk-refused, range-refused, column-refused-by, build-by, signed-by, stored-by, absent-by, align-by, pack-by}
 use Rattle.format.specs.Laws.Archive.{field-lands, field-apart, field-once, list-length}
-use Rattle.format.specs.Laws.Certify.{Certified, lookup-certified}
+use Rattle.format.specs.Laws.Certify.{lookup-certified}
 use Rattle.format.specs.Laws.Opened.{certify-refuses, lookup-refuses, bytes-refuses, place-refuses, walk-refuses, walk-keys-refuses, walk-values-refuses, range-refuses, range-keys-refuses, range-values-refuses, is-recorded, is-archive, lookup-accepted, bytes-accepted, place-accepted, walk-accepted, walk-keys-accepted, walk-values-accepted, certified-exactly, is-certified, certified-accepts, range-certified, range-keys-certified, range-values-certified, column-uncertified}
 use Rattle.format.specs.Laws.RangeIter.{range-yields}
 use Rattle.format.specs.Laws.Key.{pack-unpack}

@@ -1,6 +1,6 @@
 -- By which numbers each call refuses: check by 1 to 7 and certify by 1 to 9, a reader as the one of them that it runs, the column query also by 18, the
 -- builder by 10 to 14, the parts by 15 to 17, key packing by 18. Assumes nothing.
-use Prim.Native.Nat.{ℕ, _+_, _%_, _^_, _≤_, _<_}
+use Prim.Native.Nat.{ℕ, _+_, _^_, _≤_, _<_}
 use mathlib.Core.Path.{_≡_, refl, sym, ap, _∙_}
 use mathlib.Core.Logic.{_⊎_, inl, inr}
 use mathlib.Core.Bool.{Bool, true, false}
