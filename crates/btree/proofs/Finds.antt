@@ -18,8 +18,8 @@ use Rattle.format.specs.Layout.{Layout, headSize, Limits, nested}
 use Rattle.format.specs.Bytes.{leAt}
 use Rattle.format.specs.Node.{leaf, inner, child, keyAt, leafCount, slot}
 use Rattle.format.specs.Lookup.{Order, less, equal, greater, order, lookupSlots, lookupChildren, lookupBody, lookupAt, bytesOf, placeOf}
-use Rattle.format.specs.Laws.Children.{Leads, childAt, onChild, on-at, on-absent, look-child, child-leads}
-use Rattle.format.specs.Laws.Node.{Node, leafG, innerG, Good, LeafNode, InnerNode, kind-leaf, as-leaf, as-inner, lookup-node}
+use Rattle.format.specs.Laws.Read.Children.{Leads, childAt, onChild, on-at, on-absent, look-child, child-leads}
+use Rattle.format.specs.Laws.Read.Node.{Node, leafG, innerG, Good, LeafNode, InnerNode, kind-leaf, as-leaf, as-inner, lookup-node}
 use Rattle.btree.specs.Seek.{seekAt}
 use Rattle.btree.specs.declared.map.Seek.{Seek}
 use Rattle.btree.specs.declared.map.Seek.the-variants.{Equal, Less}

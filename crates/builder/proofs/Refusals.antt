@@ -12,7 +12,7 @@ use Rattle.format.specs.Layout.{layout32}
 use Rattle.format.specs.Bytes.{put}
 use Rattle.format.specs.Refusal.{Answer, gives, refuses}
 use Rattle.format.specs.Build.{treeOf, behind, pairs, risesFrom, rises, build, outBy, outAfter}
-use Rattle.format.specs.Laws.Built32.{length-pairs}
+use Rattle.format.specs.Laws.Build.Built32.{length-pairs}
 use Rattle.builder.specs.Size.{endOf}
 use Rattle.builder.proofs.Whole.{end-is}
 

@@ -11,9 +11,9 @@ use lib.Dec.{lit≤}
 use Rattle.format.specs.Layout.{layout32}
 use Rattle.format.specs.Tree.{Pair, lengthBranches, lengthBranch}
 use Rattle.format.specs.Build.{Filled, FilledBranches, fillNext, fillBranches, fill, height, lastLevel, treeOf}
-use Rattle.format.specs.Laws.Filling.{upper, room, Took, fill-took}
-use Rattle.format.specs.Laws.Height.{fitting}
-use Rattle.format.specs.Laws.Built.{tree-is}
+use Rattle.format.specs.Laws.Build.Filling.{upper, room, Took, fill-took}
+use Rattle.format.specs.Laws.Build.Height.{fitting}
+use Rattle.format.specs.Laws.Build.Built.{tree-is}
 use Rattle.builder.specs.Size.{weighs, weight}
 
 abbrev pub sizeBy : ℕ → ℕ → ℕ → ℕ

@@ -12,14 +12,14 @@ use Rattle.format.specs.Layout.{layout32}
 use Rattle.format.specs.Bytes.{put}
 use Rattle.format.specs.Refusal.{gives, refuses}
 use Rattle.format.specs.Align.{isAlignment, zerosTo, Step, alignStep}
-use Rattle.format.specs.Laws.Align.{alignment-pos, step-given, zeros-lt}
+use Rattle.format.specs.Laws.Numbers.Align.{alignment-pos, step-given, zeros-lt}
 use Rattle.format.specs.Tree.{Pair, Branch, noneB, someB, lengthBranch, childOf, writeBranch}
 use Rattle.format.specs.Build.{height, lastLevel, treeOf, firstAlign, recordBytes, behind, pairs}
-use Rattle.format.specs.Laws.Bytes.{length-leBytes}
-use Rattle.format.specs.Laws.Laid.{length-offset}
-use Rattle.format.specs.Laws.Trees.{There}
-use Rattle.format.specs.Laws.Streaming.{tree-there}
-use Rattle.format.specs.Laws.Built32.{length-pairs}
+use Rattle.format.specs.Laws.Numbers.Bytes.{length-leBytes}
+use Rattle.format.specs.Laws.Build.Laid.{length-offset}
+use Rattle.format.specs.Laws.Build.Trees.{There}
+use Rattle.format.specs.Laws.Build.Streaming.{tree-there}
+use Rattle.format.specs.Laws.Build.Built32.{length-pairs}
 use Rattle.builder.specs.Size.{weight, endOf}
 use Rattle.nodes.proofs.Laws.{join}
 use Rattle.serialize.proofs.Whole.{tree-size}

@@ -32,15 +32,15 @@ use Rattle.format.specs.Tree.{Pair}
 use Rattle.format.specs.Build.{treeOf, pairs, build, archive, outBy, outAfter}
 use Rattle.format.specs.Serialize.{serialize, streamed}
 use Rattle.format.specs.Calls.{lookupCall, bytesCall, placeCall, walkCall, walkKeys, walkValues, rangeCall, rangeKeys, rangeValues, columnCall, columnKeys, columnValues}
-use Rattle.format.specs.Laws.Find.{In, find-found, find-nothing, find-one}
-use Rattle.format.specs.Laws.CallRefusals.{check-by, certify-by, lookup-refused, walk-refused, range-refused, column-refused-by, build-by, signed-by, stored-by, absent-by, align-by, pack-by}
-use Rattle.format.specs.Laws.Archive.{field-lands, field-apart, field-once, list-length}
-use Rattle.format.specs.Laws.Certify.{lookup-certified}
-use Rattle.format.specs.Laws.Opened.{certify-refuses, lookup-refuses, bytes-refuses, place-refuses, walk-refuses, walk-keys-refuses, walk-values-refuses, range-refuses, range-keys-refuses, range-values-refuses, is-recorded, is-archive, lookup-accepted, bytes-accepted, place-accepted, walk-accepted, walk-keys-accepted, walk-values-accepted, certified-exactly, is-certified, certified-accepts, range-certified, range-keys-certified, range-values-certified, column-uncertified}
-use Rattle.format.specs.Laws.RangeIter.{range-yields}
-use Rattle.format.specs.Laws.Key.{pack-unpack}
-use Rattle.format.specs.Laws.Built32.{Taken, taken, taken-gives, build-certifies, build-output, build-archive, Offsets, build-emplaces}
-use Rattle.format.specs.Laws.Streaming.{never-panics, streamed-archive}
+use Rattle.format.specs.Laws.Certify.Find.{In, find-found, find-nothing, find-one}
+use Rattle.format.specs.Laws.Calls.Refusals.{check-by, certify-by, lookup-refused, walk-refused, range-refused, column-refused-by, build-by, signed-by, stored-by, absent-by, align-by, pack-by}
+use Rattle.format.specs.Laws.Check.Archive.{field-lands, field-apart, field-once, list-length}
+use Rattle.format.specs.Laws.Certify.Certified.{lookup-certified}
+use Rattle.format.specs.Laws.Calls.Opened.{certify-refuses, lookup-refuses, bytes-refuses, place-refuses, walk-refuses, walk-keys-refuses, walk-values-refuses, range-refuses, range-keys-refuses, range-values-refuses, is-recorded, is-archive, lookup-accepted, bytes-accepted, place-accepted, walk-accepted, walk-keys-accepted, walk-values-accepted, certified-exactly, is-certified, certified-accepts, range-certified, range-keys-certified, range-values-certified, column-uncertified}
+use Rattle.format.specs.Laws.Range.Iter.{range-yields}
+use Rattle.format.specs.Laws.Numbers.Key.{pack-unpack}
+use Rattle.format.specs.Laws.Build.Built32.{Taken, taken, taken-gives, build-certifies, build-output, build-archive, Offsets, build-emplaces}
+use Rattle.format.specs.Laws.Build.Streaming.{never-panics, streamed-archive}
 
 -- ---- demand 1: "gets an answer or a listed refusal .. and a refusal changes no lent buffer"
 

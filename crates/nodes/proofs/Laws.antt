@@ -10,7 +10,7 @@ use Rattle.format.specs.declared.Child.the-variants.{Absent, At}
 use Rattle.format.specs.Layout.{layout32}
 use Rattle.format.specs.Bytes.{leBytes, put}
 use Rattle.format.specs.Tree.{offsetBytes}
-use Rattle.format.specs.Laws.Bytes.{put-append}
+use Rattle.format.specs.Laws.Numbers.Bytes.{put-append}
 use Rattle.nodes.specs.declared.inline_vec.Pair.{Pair}
 use Rattle.nodes.specs.declared.inline_vec.Slot.{Slot}
 use Rattle.nodes.specs.declared.inline_vec.OpenInner.{OpenInner}

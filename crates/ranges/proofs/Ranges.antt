@@ -19,12 +19,12 @@ use Rattle.format.specs.Node.{child, keyAt, leafCount, slot}
 use Rattle.format.specs.Entries.{slots, listChildren, listAt}
 use Rattle.format.specs.Certify.{Ascending}
 use Rattle.format.specs.Range.{meetsLower, meetsUpper, matches, select}
-use Rattle.format.specs.Laws.Ascend.{Split, split}
-use Rattle.format.specs.Laws.Bounds.{node-few}
-use Rattle.format.specs.Laws.Children.{childAt, onChild, on-at}
-use Rattle.format.specs.Laws.Node.{Node, InnerNode, kind-leaf}
-use Rattle.format.specs.Laws.Ranged.{Sink, sink, taken, rangeStep, ranged, select-few, step-hit, all-ranged, runs-matching, runs-rise, pass-lower, stop-upper}
-use Rattle.format.specs.Laws.Written.{walked, runs-none, runs-cons, runs-append}
+use Rattle.format.specs.Laws.Certify.Ascend.{Split, split}
+use Rattle.format.specs.Laws.Read.Bounds.{node-few}
+use Rattle.format.specs.Laws.Read.Children.{childAt, onChild, on-at}
+use Rattle.format.specs.Laws.Read.Node.{Node, InnerNode, kind-leaf}
+use Rattle.format.specs.Laws.Range.Ranged.{Sink, sink, taken, rangeStep, ranged, select-few, step-hit, all-ranged, runs-matching, runs-rise, pass-lower, stop-upper}
+use Rattle.format.specs.Laws.Read.Written.{walked, runs-none, runs-cons, runs-append}
 use Rattle.btree.proofs.Runs.{slots-more, children-more, children-last, entries-leaf, entries-inner, leaf-step, inner-step, inner-done}
 
 module _ (L : Layout) (s : List ℕ) where

@@ -18,10 +18,10 @@ use Rattle.format.specs.Tree as Tree
 use Rattle.format.specs.Tree.{Pair, Slot, slotOf, head, offsetBytes}
 use Rattle.format.specs.Build.{pairs}
 use Rattle.format.specs.Serialize.{State, withInners as withStack, closeLeaf, closeInner, grow, climb, Taken, takeEntries, transit, pushLeaf as pushPair, turn, step, run}
-use Rattle.format.specs.Laws.Bytes.{put-append, length-leBytes}
-use Rattle.format.specs.Laws.Laid.{length-column, length-offset}
-use Rattle.format.specs.Laws.Built32.{length-pairs}
-use Rattle.format.specs.Laws.Turns.{climb-close, climb-grow, turn-put, turn-close, turn-end}
+use Rattle.format.specs.Laws.Numbers.Bytes.{put-append, length-leBytes}
+use Rattle.format.specs.Laws.Build.Laid.{length-column, length-offset}
+use Rattle.format.specs.Laws.Build.Built32.{length-pairs}
+use Rattle.format.specs.Laws.Build.Turns.{climb-close, climb-grow, turn-put, turn-close, turn-end}
 use Rattle.serialize.specs.declared.map.Next.the-variants.{Got, End}
 use Rattle.serialize.specs.declared.map.Fit.the-variants.{End as Ends}
 use Rattle.serialize.specs.declared.map.Filled.{Filled}

@@ -16,11 +16,11 @@ use Rattle.format.specs.Bytes.{leBytes, put}
 use Rattle.format.specs.Tree.{Pair, Slot, Branch, offsetBytes, lengthBranch, childOf, writeBranch}
 use Rattle.format.specs.Build.{logFrom, height, lastLevel, treeOf, recordBytes, pairs}
 use Rattle.format.specs.Serialize.{State, run}
-use Rattle.format.specs.Laws.Laid.{length-offset}
-use Rattle.format.specs.Laws.Filling.{upper}
-use Rattle.format.specs.Laws.Height.{fitting}
-use Rattle.format.specs.Laws.Streaming.{Agrees, run-agrees}
-use Rattle.format.specs.Laws.Built32.{length-pairs}
+use Rattle.format.specs.Laws.Build.Laid.{length-offset}
+use Rattle.format.specs.Laws.Build.Filling.{upper}
+use Rattle.format.specs.Laws.Build.Height.{fitting}
+use Rattle.format.specs.Laws.Build.Streaming.{Agrees, run-agrees}
+use Rattle.format.specs.Laws.Build.Built32.{length-pairs}
 use Rattle.nodes.specs.declared.ser_vec.OpenInners.{OpenInners}
 use Rattle.nodes.specs.Nodes.{childAt, noChild, newInners}
 use Rattle.serialize.specs.Machine.{St, runS, reopen}

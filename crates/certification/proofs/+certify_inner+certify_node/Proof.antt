@@ -11,9 +11,9 @@ use Rattle.format.specs.Layout.{layout32, leafSize, standard, nested}
 use Rattle.format.specs.Node.{child}
 use Rattle.format.specs.Entries.{listAt}
 use Rattle.format.specs.Certify.{hollowAt}
-use Rattle.format.specs.Laws.Children.{onChild, childAt}
-use Rattle.format.specs.Laws.Node.{as-leaf, as-inner, node-room, child-falls}
-use Rattle.format.specs.Laws.Written.{runs}
+use Rattle.format.specs.Laws.Read.Children.{onChild, childAt}
+use Rattle.format.specs.Laws.Read.Node.{as-leaf, as-inner, node-room, child-falls}
+use Rattle.format.specs.Laws.Read.Written.{runs}
 use Rattle.certification.specs.Survey.{step, raised}
 use Rattle.btree.proofs.Runs.{child-run, child-skipped, leaf-run}
 use Rattle.certification.proofs.Surveys.{byte-inner, left, left-step, left-last, left-done, child-flagged, child-unflagged, anyLeft, leaf-flag, flag-step, flag-done}

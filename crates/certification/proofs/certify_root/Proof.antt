@@ -1,7 +1,7 @@
 -- `certification::certify_root` meets its contract. Assumes nothing.
 use native.Mathlib.Omega.{arith}
 use Rattle.format.specs.Layout.{layout32, standard}
-use Rattle.format.specs.Laws.Node.{as-leaf, as-inner, node-room}
+use Rattle.format.specs.Laws.Read.Node.{as-leaf, as-inner, node-room}
 use Rattle.btree.proofs.Runs.{leaf-run}
 use Rattle.certification.proofs.Surveys.{leaf-flag}
 use borrow.Author.Needs.{needs}

@@ -1,7 +1,7 @@
 -- `certification::note_hollow` meets its contract. Assumes nothing.
 use native.Mathlib.Omega.{arith}
 use Rattle.format.specs.Layout.{layout32}
-use Rattle.format.specs.Laws.Node.{node-room}
+use Rattle.format.specs.Laws.Read.Node.{node-room}
 use Rattle.certification.proofs.Surveys.{own-empty, own-filled, own-absent, own-present}
 use Rattle.certification.proofs.note_hollow.Statement.{statement}
 use Rattle.certification.proofs.note_hollow.Tie as tie

@@ -4,7 +4,7 @@ use native.Mathlib.Omega.{arith}
 use Rattle.format.specs.Layout.{layout32, standard}
 use Rattle.format.specs.Check.{counted, checkArchive}
 use Rattle.format.specs.Refusal.{number, gives, refuses, checkOf}
-use Rattle.format.specs.Laws.Opened.{room-for, root-back, node, certify-refuses, certify-none, certify-8, certify-9, certify-all}
+use Rattle.format.specs.Laws.Calls.Opened.{room-for, root-back, node, certify-refuses, certify-none, certify-8, certify-9, certify-all}
 use borrow.Author.Needs.{needs}
 use Rattle.fieldmap.proofs.certify.Statement.{statement}
 use Rattle.fieldmap.proofs.certify.Tie as tie

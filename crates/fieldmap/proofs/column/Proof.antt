@@ -5,7 +5,7 @@ use borrow.Author.Needs.{needs}
 use Rattle.format.specs.Layout.{layout32, standard}
 use Rattle.format.specs.Key.{columnBounds}
 use Rattle.format.specs.Refusal.{number, gives, refuses, checkOf}
-use Rattle.format.specs.Laws.Opened.{column-ranges, column-keys-ranges, column-values-ranges, column-uncertified, column-refused, column-keys-refused, column-values-refused}
+use Rattle.format.specs.Laws.Calls.Opened.{column-ranges, column-keys-ranges, column-values-ranges, column-uncertified, column-refused, column-keys-refused, column-values-refused}
 use Rattle.perimetry.specs.Answers.{columnsOf}
 use Rattle.fieldmap.proofs.column.Statement.{statement}
 use Rattle.fieldmap.proofs.column.Tie as tie

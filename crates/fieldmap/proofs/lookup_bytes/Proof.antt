@@ -4,7 +4,7 @@ use native.Mathlib.Omega.{arith}
 use Rattle.format.specs.Layout.{layout32, standard}
 use Rattle.format.specs.Check.{counted, checkArchive}
 use Rattle.format.specs.Refusal.{number, gives, refuses, checkOf}
-use Rattle.format.specs.Laws.Opened.{room-for, root-back, node, bytes-refuses, bytes-none, bytes-gives, place-refuses, place-none, place-gives}
+use Rattle.format.specs.Laws.Calls.Opened.{room-for, root-back, node, bytes-refuses, bytes-none, bytes-gives, place-refuses, place-none, place-gives}
 use Rattle.btree.proofs.Finds.{same-place}
 use borrow.Author.Needs.{needs}
 use Rattle.fieldmap.proofs.lookup_bytes.Statement.{statement}

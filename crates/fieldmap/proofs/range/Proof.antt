@@ -5,7 +5,7 @@ use Rattle.format.specs.Layout.{layout32, standard}
 use Rattle.format.specs.Check.{counted}
 use Rattle.format.specs.Certify.{certify}
 use Rattle.format.specs.Refusal.{number, gives, refuses, checkOf}
-use Rattle.format.specs.Laws.Opened.{room-for, root-back, node, certified-accepts, ascending-root, range-refuses, range-keys-refuses, range-values-refuses, range-none, range-keys-none, range-values-none, range-gives, range-keys-gives, range-values-gives}
+use Rattle.format.specs.Laws.Calls.Opened.{room-for, root-back, node, certified-accepts, ascending-root, range-refuses, range-keys-refuses, range-values-refuses, range-none, range-keys-none, range-values-none, range-gives, range-keys-gives, range-values-gives}
 use borrow.Author.Needs.{needs}
 use Rattle.fieldmap.proofs.range.Statement.{statement}
 use Rattle.fieldmap.proofs.range.Tie as tie

@@ -4,7 +4,7 @@ use native.Mathlib.Omega.{arith}
 use Rattle.format.specs.Layout.{layout32, standard}
 use Rattle.format.specs.Check.{counted, checkArchive}
 use Rattle.format.specs.Refusal.{number, gives, refuses, checkOf}
-use Rattle.format.specs.Laws.Opened.{room-for, root-back, node, walk-refuses, walk-keys-refuses, walk-values-refuses, walk-none, walk-keys-none, walk-values-none, walk-gives, walk-keys-gives, walk-values-gives}
+use Rattle.format.specs.Laws.Calls.Opened.{room-for, root-back, node, walk-refuses, walk-keys-refuses, walk-values-refuses, walk-none, walk-keys-none, walk-values-none, walk-gives, walk-keys-gives, walk-values-gives}
 use borrow.Author.Needs.{needs}
 use Rattle.fieldmap.proofs.walk.Statement.{statement}
 use Rattle.fieldmap.proofs.walk.Tie as tie

@@ -5,7 +5,7 @@ use lib.Dec.{lit≤}
 use Rattle.builder.proofs.Weights.{weight-small}
 use Rattle.serialize.proofs.Whole.{depth-bounds}
 use Rattle.builder.proofs.Whole.{is-4, is-8, end-zero, end-more}
-use Rattle.format.specs.Laws.Align.{zeros-lt}
+use Rattle.format.specs.Laws.Numbers.Align.{zeros-lt}
 use borrow.Author.Needs.{needs}
 use Rattle.builder.proofs.size.end_of.Statement.{statement}
 use Rattle.builder.proofs.size.end_of.Tie as tie

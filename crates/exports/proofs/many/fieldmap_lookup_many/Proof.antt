@@ -5,7 +5,7 @@ use native.Mathlib.Omega.{arith}
 use Rattle.format.specs.Layout.{layout32, standard}
 use Rattle.format.specs.Check.{counted, checkArchive}
 use Rattle.format.specs.Refusal.{number, gives, refuses, checkOf}
-use Rattle.format.specs.Laws.Opened.{room-for, root-back, node}
+use Rattle.format.specs.Laws.Calls.Opened.{room-for, root-back, node}
 use borrow.Author.Needs.{needs}
 use Rattle.exports.proofs.Given.{code-given, code-refused, told-given, told-refused}
 use Rattle.exports.proofs.Looks.{found-most, many-refuses, many-values-refuses, many-none, many-values-none, many-gives, many-values-gives}

@@ -4,7 +4,7 @@ use mathlib.Core.Path.{_∙_, sym, ap}
 use borrow.Author.Needs.{needs}
 use Rattle.format.specs.Layout.{layout32, standard}
 use Rattle.format.specs.Bytes.{AllBytes}
-use Rattle.format.specs.Laws.CallNumbers.{column-fits}
+use Rattle.format.specs.Laws.Calls.Numbers.{column-fits}
 use Rattle.fieldmap.specs.Answers.{rangeOf}
 use Rattle.exports.specs.Answers.{rangeWritten, rangeMatching}
 use Rattle.exports.proofs.Given.{code-given, code-refused, told-given, told-refused, store-given, store-refused}

@@ -4,7 +4,7 @@ use mathlib.Core.Path.{_∙_, ap}
 use borrow.Author.Needs.{needs}
 use Rattle.format.specs.Layout.{layout32, standard}
 use Rattle.format.specs.Bytes.{AllBytes}
-use Rattle.format.specs.Laws.CallNumbers.{count-fits}
+use Rattle.format.specs.Laws.Calls.Numbers.{count-fits}
 use Rattle.exports.specs.Answers.{coded}
 use Rattle.exports.proofs.Given.{told-counted}
 use Rattle.exports.proofs.read.fieldmap_check.Statement.{statement}

@@ -3,7 +3,7 @@ use mathlib.Core.Path.{_∙_, sym, ap}
 use borrow.Author.Needs.{needs}
 use Rattle.format.specs.Layout.{layout32, standard}
 use Rattle.format.specs.Bytes.{AllBytes}
-use Rattle.format.specs.Laws.CallNumbers.{walk-fits}
+use Rattle.format.specs.Laws.Calls.Numbers.{walk-fits}
 use Rattle.fieldmap.specs.Answers.{walkOf}
 use Rattle.exports.specs.Answers.{walkWritten, walkCount}
 use Rattle.exports.proofs.Given.{code-given, code-refused, told-given, told-refused, store-given, store-refused}

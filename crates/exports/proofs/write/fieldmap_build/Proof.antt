@@ -5,7 +5,7 @@ use native.Mathlib.Omega.{arith}
 use borrow.Author.Needs.{needs}
 use Rattle.format.specs.Layout.{standard}
 use Rattle.format.specs.Bytes.{AllWords}
-use Rattle.format.specs.Laws.CallNumbers.{build-fits}
+use Rattle.format.specs.Laws.Calls.Numbers.{build-fits}
 use Rattle.builder.specs.Answers.{builtOf}
 use Rattle.exports.proofs.Given.{code-given, code-refused, told-given, told-refused}
 use Rattle.exports.proofs.write.fieldmap_build.Statement.{statement}

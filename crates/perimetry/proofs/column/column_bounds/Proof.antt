@@ -3,7 +3,7 @@ use mathlib.Core.Logic.{⊎-elim}
 use mathlib.Core.Path.{sym}
 use mir.Facts.{toZ-ofZ}
 use borrow.Author.Needs.{needs}
-use Rattle.format.specs.Laws.Key.{column-no-exam, column-no-eye, column-given}
+use Rattle.format.specs.Laws.Numbers.Key.{column-no-exam, column-no-eye, column-given}
 use Rattle.perimetry.proofs.column.column_bounds.Statement.{statement}
 use Rattle.perimetry.proofs.column.column_bounds.Tie as tie
 

@@ -3,7 +3,7 @@ use mathlib.Core.Logic.{⊎-elim}
 use mathlib.Core.Path.{sym}
 use mir.Facts.{toZ-ofZ}
 use borrow.Author.Needs.{needs}
-use Rattle.format.specs.Laws.Key.{pack-no-exam, pack-no-eye, pack-no-pres, pack-given}
+use Rattle.format.specs.Laws.Numbers.Key.{pack-no-exam, pack-no-eye, pack-no-pres, pack-given}
 use Rattle.perimetry.proofs.key.pack.Statement.{statement}
 use Rattle.perimetry.proofs.key.pack.Tie as tie
 

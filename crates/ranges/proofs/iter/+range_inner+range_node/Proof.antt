@@ -10,8 +10,8 @@ use Rattle.format.specs.Layout.{layout32, leafSize, standard}
 use Rattle.format.specs.Node.{slot}
 use Rattle.format.specs.Certify.{Ascending}
 use Rattle.format.specs.Range.{matches}
-use Rattle.format.specs.Laws.Node.{as-leaf, as-inner, node-room, child-falls}
-use Rattle.format.specs.Laws.Ranged.{sink, ranged}
+use Rattle.format.specs.Laws.Read.Node.{as-leaf, as-inner, node-room, child-falls}
+use Rattle.format.specs.Laws.Range.Ranged.{sink, ranged}
 use Rattle.btree.proofs.Runs.{leaf-run, child-run, child-skipped}
 use Rattle.ranges.proofs.Ranges.{rest, at-child, leaf-ascends, inner-ascends, rest-ascends, child-ascends, last-ascends, not-leaf, slot-low, slot-past, slot-matches, whole-leaf-fits, inner-pass, inner-stop, inner-take, inner-end, child-fits, last-fits, slot-fits}
 use borrow.Author.Needs.{needs}

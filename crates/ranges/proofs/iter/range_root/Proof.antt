@@ -2,7 +2,7 @@
 use native.Mathlib.Omega.{arith}
 use borrow.Author.Needs.{needs}
 use Rattle.format.specs.Layout.{layout32, standard}
-use Rattle.format.specs.Laws.Node.{as-leaf, as-inner, node-room}
+use Rattle.format.specs.Laws.Read.Node.{as-leaf, as-inner, node-room}
 use Rattle.btree.proofs.Runs.{leaf-run}
 use Rattle.ranges.proofs.Ranges.{leaf-ascends, whole-leaf-fits}
 use Rattle.ranges.proofs.iter.range_root.Statement.{statement}

@@ -1,0 +1,11 @@
+pub mod Trees
+pub mod Stands
+pub mod Laid
+pub mod Filling
+pub mod Height
+pub mod Built
+pub mod Built32
+pub mod Turns
+pub mod Subtrees
+pub mod LastLevel
+pub mod Streaming

@@ -1,0 +1,168 @@
+-- By which numbers each call refuses: check by 1 to 7 and certify by 1 to 9, a reader as the one of them that it runs, the column query also by 18, the
+-- builder by 10 to 14, the parts by 15 to 17, key packing by 18. Assumes nothing.
+use Prim.Native.Nat.{ℕ, _+_, _^_, _≤_, _<_}
+use mathlib.Core.Path.{_≡_, refl, sym, ap, _∙_}
+use mathlib.Core.Logic.{_⊎_, inl, inr}
+use mathlib.Core.Bool.{Bool, true, false}
+use mathlib.Core.List.{List}
+use native.Mathlib.Omega.{arith}
+use lib.ListN.{length}
+use lib.IntN.{ℤ, subℕ}
+use lib.Dec.{ltb, leb, eqb}
+use lib.Signed.{mag}
+use borrow.Author.Tests.{ltb-true, ltb-false}
+use Rattle.format.specs.declared.Bound.{Bound}
+use Rattle.format.specs.Layout.{Layout, Limits}
+use Rattle.format.specs.Refusal.{Answer, gives, refuses, provided, andThen, RefusesBy}
+use Rattle.format.specs.RelPtr.{fitSigned, signedOffset, storedOffset, absentOffset}
+use Rattle.format.specs.Align.{isAlignment, zerosTo, alignStep}
+use Rattle.format.specs.Key.{Column, packKey, columnBounds}
+use Rattle.format.specs.Check.{Checked, accepted, refused, counted, checkArchive}
+use Rattle.format.specs.Certify.{certify}
+use Rattle.format.specs.Build.{treeOf, behind, pairs, rises, build}
+use Rattle.format.specs.Calls.{lookupCall, walkCall, rangeCall, columnCall, columnKeys, columnValues}
+use Rattle.format.specs.Laws.Numbers.RelPtr.{absent-last, stored-15, offset-behind, fits-refused}
+use Rattle.format.specs.Laws.Build.Stands.{absent-fits}
+use Rattle.format.specs.Laws.Check.Refusals.{UpTo, check-up, certify-up}
+use Rattle.format.specs.Laws.Calls.Opened.{lookup-refuses, lookup-accepted, walk-refuses, walk-accepted, range-refuses, range-keys-refuses, range-values-refuses, range-certified, column-ranges, column-keys-ranges, column-values-ranges, column-uncertified, column-refused, column-keys-refused, column-values-refused}
+
+-- ---- answers
+
+-- What is given is not refused.
+pub given : {A : Type 0} {a : A} {r : ℕ} → gives a ≡ refuses r → ⊥
+given e = let z : _≡_ {A = ℕ} 0 1 = cc in absurd (omega arith)
+
+same-number : {A : Type 0} {q r : ℕ} → _≡_ {A = Answer A} (refuses q) (refuses r) → q ≡ r
+same-number e = cc
+
+by-gives : {A : Type 0} {m n : ℕ} (a : A) → RefusesBy m n (gives a)
+by-gives a r e = absurd (given e)
+
+by-provided : {A : Type 0} {m n : ℕ} (b : Bool) (k : ℕ) (a : Answer A) → m ≤ k → k ≤ n → RefusesBy m n a → RefusesBy m n (provided b k a)
+by-provided true k a l h u r e = u r e
+by-provided false k a l h u r e = omega (arith, same-number e)
+
+by-then : {A B : Type 0} (m n : ℕ) (a : Answer A) (f : A → Answer B) → RefusesBy m n a → ((x : A) → RefusesBy m n (f x)) → RefusesBy m n (andThen a f)
+by-then m n (gives x) f u v r e = v x r e
+by-then m n (refuses q) f u v r e = u r (ap refuses (same-number e))
+
+by-more : {A : Type 0} (k l m n : ℕ) (a : Answer A) → k ≤ m → n ≤ l → RefusesBy m n a → RefusesBy k l a
+by-more k l m n a h g u r e = omega (arith, u r e)
+
+-- ---- the parts and the keys
+
+fit-by : (h n : ℕ) (z : ℤ) → RefusesBy n n (fitSigned h n z)
+unfolding fitSigned
+fit-by h n z = by-provided (ltb (mag z) (2 ^ h)) n _ (omega arith) (omega arith) (by-gives z)
+
+pub signed-by : (from to : ℕ) → RefusesBy 15 15 (signedOffset from to)
+unfolding signedOffset
+signed-by from to = fit-by 63 15 (subℕ to from)
+
+pub stored-by : (h from to : ℕ) → RefusesBy 15 16 (storedOffset h from to)
+unfolding storedOffset
+stored-by h from to =
+    by-then 15 16 (signedOffset from to) (fitSigned h 16) (by-more 15 16 15 15 _ (omega arith) (omega arith) (signed-by from to))
+    (λ z. by-more 15 16 16 16 _ (omega arith) (omega arith) (fit-by h 16 z))
+
+-- A position has 64 bits: only at the largest one the mark is refused.
+pub absent-by : (h at : ℕ) → 1 < 2 ^ h → at < 2 ^ 64 → RefusesBy 15 15 (absentOffset h at)
+absent-by h at big l r e = go (ltb (at + 1) (2 ^ 64)) refl
+  where
+    go : (b : Bool) → ltb (at + 1) (2 ^ 64) ≡ b → (15 ≤ r) × (r ≤ 15)
+    go true eb = absurd (given (sym (absent-fits h at big (ltb-true (at + 1) (2 ^ 64) eb)) ∙ e))
+    go false eb =
+        let last : at ≡ 0xffff_ffff_ffff_ffff = omega (arith, ltb-false (at + 1) (2 ^ 64) eb) in
+        let far : signedOffset at 0 ≡ refuses 15 = offset-behind at 0 (omega arith) ∙ fits-refused 63 15 _ (omega arith) in
+        omega (arith, same-number (sym (absent-last h at last ∙ stored-15 h at 0 15 far) ∙ e))
+
+pub align-by : (p a : ℕ) → RefusesBy 17 17 (alignStep p a)
+unfolding alignStep
+align-by p a =
+    by-provided (isAlignment a) 17 _ (omega arith) (omega arith)
+    (by-provided (ltb (p + zerosTo a p) (2 ^ 64)) 17 _ (omega arith) (omega arith) (by-gives _))
+
+pub pack-by : (exam eye : ℕ) (x y : ℤ) (pres : ℕ) → RefusesBy 18 18 (packKey exam eye x y pres)
+unfolding packKey
+pack-by exam eye x y pres =
+    by-provided (ltb exam (2 ^ 24)) 18 _ (omega arith) (omega arith)
+    (by-provided (ltb eye 2) 18 _ (omega arith) (omega arith) (by-provided (ltb pres (2 ^ 23)) 18 _ (omega arith) (omega arith) (by-gives _)))
+
+columns-by : (exam eye : ℕ) (a b : ℤ) → RefusesBy 18 18 (columnBounds exam eye a b)
+unfolding columnBounds
+columns-by exam eye a b =
+    by-provided (ltb exam (2 ^ 24)) 18 _ (omega arith) (omega arith)
+    (by-provided (ltb eye 2) 18 _ (omega arith) (omega arith) (by-gives _))
+
+-- ---- the builder
+
+pub build-by : (L : Layout) (ks vs : List ℕ) (h room : ℕ) → RefusesBy 10 14 (build L ks vs h room)
+unfolding build
+build-by L ks vs h room =
+    let n = h + length (behind L h (treeOf L (pairs ks vs)) (length ks)) in
+    by-provided (eqb (length ks) (length vs)) 10 _ (omega arith) (omega arith)
+    (by-provided (leb (length ks) 40000) 11 _ (omega arith) (omega arith)
+    (by-provided (rises ks) 12 _ (omega arith) (omega arith)
+    (by-provided (leb h 4096) 13 _ (omega arith) (omega arith) (by-provided (leb n room) 14 _ (omega arith) (omega arith) (by-gives n)))))
+
+-- ---- check and certify
+
+counted-by : (m : ℕ) (a : Checked) → UpTo m a → RefusesBy 1 m (counted a)
+counted-by m (accepted n t) u r e = absurd (given e)
+counted-by m (refused q) u r e = omega (arith, u, same-number e)
+
+-- A call with the answer a starts with one that answers c: where c gives, it gives; where c refuses, it refuses by the same number. So it refuses only where c
+-- does.
+refused-first : {A B : Type 0} (c : Answer B) (a : Answer A) → ((n : B) → c ≡ gives n → (x : A) × (a ≡ gives x)) → ((q : ℕ) → c ≡ refuses q → a ≡ refuses q)
+    → (r : ℕ) → a ≡ refuses r → c ≡ refuses r
+refused-first (gives n) a g h r e = absurd (given (sym (g n refl .1) ∙ e))
+refused-first (refuses q) a g h r e = ap refuses (same-number (sym (h q refl) ∙ e))
+
+module _ (L : Layout) (M : Limits) (s : List ℕ) where
+  pub check-by : RefusesBy 1 7 (counted (checkArchive L M s))
+  check-by = counted-by 7 (checkArchive L M s) (check-up L M s)
+
+  pub certify-by : RefusesBy 1 9 (counted (certify L M s))
+  certify-by = counted-by 9 (certify L M s) (certify-up L M s)
+
+  -- ---- the readers
+
+  pub lookup-refused : (k r : ℕ) → lookupCall L M s k ≡ refuses r → counted (checkArchive L M s) ≡ refuses r
+  lookup-refused k = refused-first _ _ (λ n e. (_, lookup-accepted L M s n e k)) (λ q e. lookup-refuses L M s q e k)
+
+  pub walk-refused : (ks vs : List ℕ) (r : ℕ) → walkCall L M s ks vs ≡ refuses r → counted (checkArchive L M s) ≡ refuses r
+  walk-refused ks vs = refused-first _ _ (λ n e. (_, walk-accepted L M s n e ks vs)) (λ q e. walk-refuses L M s q e ks vs)
+
+  pub range-refused : (lo hi : Bound) (ks vs : List ℕ) (r : ℕ) → rangeCall L M s lo hi ks vs ≡ refuses r → counted (certify L M s) ≡ refuses r
+  range-refused lo hi ks vs = refused-first _ _ (λ n e. (_, range-certified L M s n e lo hi ks vs)) (λ q e. range-refuses L M s q e lo hi ks vs)
+
+  -- The column query: certify's refusals, then 18; the lent lists stay.
+  module _ (exam eye : ℕ) (a b : ℤ) (ks vs : List ℕ) (r : ℕ) (e : columnCall L M s exam eye a b ks vs ≡ refuses r) where
+    abbrev Number : Type 0
+    Number = (counted (certify L M s) ≡ refuses r) ⊎ (r ≡ 18)
+
+    abbrev Kept : Type 0
+    Kept = (columnKeys L M s exam eye a b ks vs ≡ ks) × (columnValues L M s exam eye a b ks vs ≡ vs)
+
+    pub column-refused-by : Number × Kept
+    column-refused-by = go (columnBounds exam eye a b) refl
+      where
+        no-bounds : (q : ℕ) → columnBounds exam eye a b ≡ refuses q → (c : Answer ℕ) → counted (certify L M s) ≡ c → Number
+        no-bounds q eb (gives n) ec =
+            let z = columns-by exam eye a b q eb in
+            inr (omega (arith, same-number (sym (column-refused L M s exam eye a b ks vs q eb n ec) ∙ e)))
+        no-bounds q eb (refuses k) ec = inl (ec ∙ ap refuses (same-number (sym (column-uncertified L M s exam eye a b ks vs k ec) ∙ e)))
+
+        go : (x : Answer Column) → columnBounds exam eye a b ≡ x → Number × Kept
+        go (gives c) eb =
+            let u = range-refused (c .lower) (c .upper) ks vs r (sym (column-ranges L M s exam eye a b ks vs c eb) ∙ e) in (
+              inl u,
+              (
+                column-keys-ranges L M s exam eye a b ks vs c eb ∙ range-keys-refuses L M s r u (c .lower) (c .upper) ks vs,
+                column-values-ranges L M s exam eye a b ks vs c eb ∙ range-values-refuses L M s r u (c .lower) (c .upper) ks vs,
+              ),
+            )
+        go (refuses q) eb = (
+          no-bounds q eb (counted (certify L M s)) refl,
+          (column-keys-refused L M s exam eye a b ks vs q eb, column-values-refused L M s exam eye a b ks vs q eb),
+        )

@@ -1,0 +1,167 @@
+-- Ranges of an ascending list: the entries that match are those from the first that meets the lower bound on, before the first past the upper
+-- bound. Assumes nothing.
+use Prim.Native.Nat.{ℕ, _<_}
+use mathlib.Core.Path.{_≡_, refl, ap}
+use mathlib.Core.Bool.{Bool, true, false, not}
+use mathlib.Core.List.{List, [], _∷_, _++_}
+use native.Mathlib.Omega.{arith}
+use borrow.Author.Tests.{ltb-true, ltb-false, leb-true, leb-false, lt-ltb, le-leb, lt-leb, le-ltb, not-true}
+use Rattle.format.specs.declared.Entry.{Entry}
+use Rattle.format.specs.declared.Bound.{Bound}
+use Rattle.format.specs.declared.Bound.the-variants.{Included, Excluded, Unbounded}
+use Rattle.format.specs.Certify.{Above, Ascending}
+use Rattle.format.specs.Range.{meetsLower, meetsUpper, matches, select, crosses}
+use Rattle.format.specs.Laws.Certify.Ascend.{Under}
+use Rattle.format.specs.Laws.Check.Reach.{true≢false}
+
+-- The list from the first entry on that passes the test.
+abbrev pub dropTo : (Entry → Bool) → List Entry → List Entry
+dropTo f [] = []
+dropTo f (x ∷ xs) = elim (f x) [ true ↦ x ∷ xs | false ↦ dropTo f xs ]
+
+-- The entries before the first that fails the test.
+abbrev pub takeTo : (Entry → Bool) → List Entry → List Entry
+takeTo f [] = []
+takeTo f (x ∷ xs) = elim (f x) [ true ↦ x ∷ takeTo f xs | false ↦ [] ]
+
+-- Whether the key is past an upper bound: `key_is_past_upper`.
+abbrev pub past : Bound → Entry → Bool
+past hi e = not (meetsUpper hi e)
+
+-- Every key above one that passes the test passes too.
+abbrev pub Rises : (Entry → Bool) → Type 0
+Rises f = (x y : Entry) → x .key < y .key → f x ≡ true → f y ≡ true
+
+pub lower-rises : (lo : Bound) → Rises (meetsLower lo)
+lower-rises (Included k) x y h e = le-leb k (y .key) (omega (arith, leb-true))
+lower-rises (Excluded k) x y h e = lt-ltb k (y .key) (omega (arith, ltb-true))
+lower-rises Unbounded x y h e = refl
+
+-- No key above one that fails an upper bound meets that bound.
+pub upper-falls : (hi : Bound) (x y : Entry) → x .key < y .key → meetsUpper hi x ≡ false → meetsUpper hi y ≡ false
+upper-falls (Included k) x y h e = lt-leb (y .key) k (omega (arith, leb-false))
+upper-falls (Excluded k) x y h e = le-ltb (y .key) k (omega (arith, ltb-false))
+upper-falls Unbounded x y h e = e
+
+pub past-rises : (hi : Bound) → Rises (past hi)
+past-rises hi x y h e = rw (upper-falls hi x y h (not-true (meetsUpper hi x) e))
+
+-- A test that every entry passes, and one that none passes.
+pub drop-none : (l : List Entry) → dropTo (λ (e : Entry). true) l ≡ l
+drop-none [] = refl
+drop-none (x ∷ xs) = refl
+
+pub drop-all : (l : List Entry) → dropTo (λ (e : Entry). false) l ≡ []
+drop-all [] = refl
+drop-all (x ∷ xs) = drop-all xs
+
+module _ (f : Entry → Bool) where
+  -- An entry that passes.
+  pub drop-hit : (l r : List Entry) (e : Entry) → f e ≡ true → dropTo f (l ++ e ∷ r) ≡ dropTo f l ++ e ∷ r
+  drop-hit [] r e h = rw (h, dropTo)
+  drop-hit (x ∷ xs) r e h = by (f x) refl (drop-hit xs r e h)
+    where
+      by : (b : Bool) → f x ≡ b → dropTo f (xs ++ e ∷ r) ≡ dropTo f xs ++ e ∷ r → dropTo f (x ∷ (xs ++ e ∷ r)) ≡ dropTo f (x ∷ xs) ++ e ∷ r
+      by true eb ih = rw (eb, dropTo)
+      by false eb ih = rw (eb, dropTo) ih
+
+  module _ (rises : Rises f) where
+    pub under-fails : (e : Entry) → f e ≡ false → (x : Entry) → x .key < e .key → f x ≡ false
+    under-fails e h x l = by (f x) refl
+      where
+        by : (b : Bool) → f x ≡ b → f x ≡ false
+        by true eb = absurd (true≢false (rises x e l eb) h)
+        by false eb = eb
+
+    -- An entry that fails: so do the lesser ones before it.
+    pub drop-miss : (l r : List Entry) (e : Entry) → f e ≡ false → Under (e .key) l → dropTo f (l ++ e ∷ r) ≡ dropTo f r
+    drop-miss [] r e h u = rw (h, dropTo)
+    drop-miss (x ∷ xs) r e h u = let eb = under-fails e h x (u .0) in rw (eb, dropTo) (drop-miss xs r e h (u .1))
+
+  above-drop : (k : ℕ) (l : List Entry) → Above k l → Above k (dropTo f l)
+  above-drop k [] a = tt
+  above-drop k (x ∷ xs) a = by (f x) refl (above-drop k xs (a .1))
+    where
+      by : (b : Bool) → f x ≡ b → Above k (dropTo f xs) → Above k (dropTo f (x ∷ xs))
+      by true eb ih = rw (eb, dropTo) a
+      by false eb ih = rw (eb, dropTo) ih
+
+  -- What is left ascends.
+  pub ascending-drop : (l : List Entry) → Ascending l → Ascending (dropTo f l)
+  ascending-drop [] a = tt
+  ascending-drop (x ∷ xs) a = by (f x) refl (ascending-drop xs (a .1))
+    where
+      by : (b : Bool) → f x ≡ b → Ascending (dropTo f xs) → Ascending (dropTo f (x ∷ xs))
+      by true eb ih = rw (eb, dropTo) a
+      by false eb ih = rw (eb, dropTo) ih
+
+module _ (lo hi : Bound) where
+  pub matches-none : (e : Entry) → (meetsLower lo e ≡ true → meetsUpper hi e ≡ false) → matches lo hi e ≡ false
+  matches-none e k = by (meetsLower lo e) refl
+    where
+      by : (b : Bool) → meetsLower lo e ≡ b → matches lo hi e ≡ false
+      by true eb = rw (eb, matches) (k eb)
+      by false eb = rw (eb, matches)
+
+  -- Above an entry past the upper bound nothing matches.
+  pub select-past : (x : Entry) → meetsUpper hi x ≡ false → (l : List Entry) → Above (x .key) l → select (matches lo hi) l ≡ []
+  select-past x ex [] a = refl
+  select-past x ex (y ∷ l) a = rw (matches-none y (λ m. upper-falls hi x y (a .0) ex), select) (select-past x ex l (a .1))
+
+  select-one : (x : Entry) (xs : List Entry) → meetsLower lo x ≡ true → Above (x .key) xs → select (matches lo hi) xs ≡ takeTo (meetsUpper hi) xs
+      → select (matches lo hi) (x ∷ xs) ≡ takeTo (meetsUpper hi) (x ∷ xs)
+  select-one x xs el a ih = by (meetsUpper hi x) refl
+    where
+      by : (b : Bool) → meetsUpper hi x ≡ b → select (matches lo hi) (x ∷ xs) ≡ takeTo (meetsUpper hi) (x ∷ xs)
+      by true eb =
+          let em : matches lo hi x ≡ true = rw (el, matches) eb in
+          rw (em, eb, select, takeTo) (ap (λ (l : List Entry). x ∷ l) ih)
+      by false eb =
+          let em : matches lo hi x ≡ false = rw (el, matches) eb in
+          rw (em, eb, select, takeTo) (select-past x eb xs a)
+
+  select-run : (w : Entry) → meetsLower lo w ≡ true → (l : List Entry) → Above (w .key) l → Ascending l → select (matches lo hi) l ≡ takeTo (meetsUpper hi) l
+  select-run w ew [] a c = refl
+  select-run w ew (x ∷ xs) a c = select-one x xs (lower-rises lo w x (a .0) ew) (c .0) (select-run w ew xs (a .1) (c .1))
+
+  -- The entries of an ascending list that match: from the first that meets the lower bound, before the first past the upper one.
+  pub select-ascending : (l : List Entry) → Ascending l → select (matches lo hi) l ≡ takeTo (meetsUpper hi) (dropTo (meetsLower lo) l)
+  select-ascending [] c = refl
+  select-ascending (x ∷ xs) c = by (meetsLower lo x) refl (select-ascending xs (c .1))
+    where
+      by : (b : Bool) → meetsLower lo x ≡ b → select (matches lo hi) xs ≡ takeTo (meetsUpper hi) (dropTo (meetsLower lo) xs)
+          → select (matches lo hi) (x ∷ xs) ≡ takeTo (meetsUpper hi) (dropTo (meetsLower lo) (x ∷ xs))
+      by true eb ih = rw (eb, dropTo) (select-one x xs eb (c .0) (select-run x eb xs (c .0) (c .1)))
+      by false eb ih =
+          let em : matches lo hi x ≡ false = rw (eb, matches) in
+          rw (em, eb, select, dropTo) ih
+
+-- Where the bounds cross, no entry meets both.
+pub crossed-fails : (lo hi : Bound) → crosses lo hi ≡ true → (e : Entry) → meetsLower lo e ≡ true → meetsUpper hi e ≡ false
+crossed-fails Unbounded hi c e m = absurd (true≢false c refl)
+crossed-fails (Included a) Unbounded c e m = absurd (true≢false c refl)
+crossed-fails (Included a) (Included b) c e m = lt-leb (e .key) b (omega (arith, ltb-true, leb-true))
+crossed-fails (Included a) (Excluded b) c e m = le-ltb (e .key) b (omega (arith, ltb-true, leb-true))
+crossed-fails (Excluded a) Unbounded c e m = absurd (true≢false c refl)
+crossed-fails (Excluded a) (Included b) c e m = lt-leb (e .key) b (omega (arith, ltb-true))
+crossed-fails (Excluded a) (Excluded b) c e m = le-ltb (e .key) b (omega (arith, ltb-true, leb-true))
+
+-- Where they do not, an entry below the lower bound meets the upper one.
+uncrossed-meets : (lo hi : Bound) → crosses lo hi ≡ false → (e : Entry) → meetsLower lo e ≡ false → meetsUpper hi e ≡ true
+uncrossed-meets Unbounded hi c e m = absurd (true≢false refl m)
+uncrossed-meets (Included a) Unbounded c e m = refl
+uncrossed-meets (Included a) (Included b) c e m = le-leb (e .key) b (omega (arith, ltb-false, leb-false))
+uncrossed-meets (Included a) (Excluded b) c e m = lt-ltb (e .key) b (omega (arith, ltb-false, leb-false))
+uncrossed-meets (Excluded a) Unbounded c e m = refl
+uncrossed-meets (Excluded a) (Included b) c e m = le-leb (e .key) b (omega (arith, ltb-false))
+uncrossed-meets (Excluded a) (Excluded b) c e m = lt-ltb (e .key) b (omega (arith, ltb-false, leb-false))
+
+-- So the first entry past the upper bound is the same in the list from the lower bound on.
+pub drop-past : (lo hi : Bound) → crosses lo hi ≡ false → (l : List Entry) → dropTo (past hi) (dropTo (meetsLower lo) l) ≡ dropTo (past hi) l
+drop-past lo hi c [] = refl
+drop-past lo hi c (x ∷ xs) = by (meetsLower lo x) refl (drop-past lo hi c xs)
+  where
+    by : (b : Bool) → meetsLower lo x ≡ b → dropTo (past hi) (dropTo (meetsLower lo) xs) ≡ dropTo (past hi) xs
+        → dropTo (past hi) (dropTo (meetsLower lo) (x ∷ xs)) ≡ dropTo (past hi) (x ∷ xs)
+    by true eb ih = rw (eb, dropTo)
+    by false eb ih = let eu = uncrossed-meets lo hi c x eb in rw (eb, eu, dropTo) ih

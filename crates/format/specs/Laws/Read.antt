@@ -1,0 +1,4 @@
+pub mod Node
+pub mod Children
+pub mod Bounds
+pub mod Written
