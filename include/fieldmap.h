@@ -2,16 +2,16 @@
  * The archived field map: rkyv 0.8.18's B-tree map with 64-bit keys and values, as proved code.
  *
  * The functions are those of the static library libexports.a, for x86-64 Linux. They call nothing but memcpy and memset, keep no state and
- * allocate nothing.
+ * allocate nothing, so any number of threads may call them at once. docs/USING.md shows how to link it from C, C++, Python and Rust.
+ *
+ * What a function answers. A number from 0 on, or, where it refuses, minus the refusal's number, -1 to -18: a negative answer is a refusal, and
+ * stays one if it is cut to an int. What the answer has no room for is stored through the pointers that come last. A refused call writes
+ * nothing.
  *
  * How arguments pass. A list passes as a pointer to its first element and the number of its elements. Where that number is 0 the pointer is not
- * followed, but must not be null: pass the address of anything that is aligned as the elements are. A number that a function stores passes as
- * a pointer to it, which must not be null. No two of the pointers of a call may lead to the same memory, unless both are only read. The
- * pointers to 64-bit numbers must be aligned to 8; an archive may stand at any address.
- *
- * What a function answers. A number below 2^32, or where it refuses FIELDMAP_REFUSED plus the refusal's number, 1 to 18. Two tell no refusal:
- * fieldmap_lookup_bytes answers 8 or 0, and fieldmap_unpack nothing. What the answer has no room for is stored through the pointers that come
- * last. A refused call writes nothing. No other demand is made on what is passed: any bytes, lists, positions and lengths get an answer.
+ * followed and may be null. A number that a function stores passes as a pointer to it, which must not be null. No two of the pointers of a call
+ * may lead to the same memory, unless both are only read. The pointers to 64-bit numbers must be aligned to 8; an archive may stand at any
+ * address. No other demand is made on what is passed: any bytes, lists, positions and lengths get an answer.
  */
 #ifndef FIELDMAP_H
 #define FIELDMAP_H
@@ -23,8 +23,25 @@
 extern "C" {
 #endif
 
-/* The answer of a refused call is this and the number of the refusal. */
-#define FIELDMAP_REFUSED UINT64_C(0x100000000)
+/* The version of these declarations. */
+#define FIELDMAP_VERSION_MAJOR 0
+#define FIELDMAP_VERSION_MINOR 2
+#define FIELDMAP_VERSION_PATCH 0
+#define FIELDMAP_VERSION "0.2.0"
+
+/* The limits. */
+#define FIELDMAP_LONGEST_ARCHIVE 1048576 /* bytes of an archive */
+#define FIELDMAP_MOST_NESTED 14          /* nodes below each other */
+#define FIELDMAP_MOST_IN_LEAF 5          /* entries of a leaf */
+#define FIELDMAP_MOST_ENTRIES 40000      /* entries of a build */
+#define FIELDMAP_LONGEST_HEADER 4096     /* bytes in front of a built archive */
+
+/* A compiler that can warns where an answer, which may be a refusal, is not looked at. */
+#if defined(__GNUC__) || defined(__clang__)
+#define FIELDMAP_MUST_USE __attribute__((warn_unused_result))
+#else
+#define FIELDMAP_MUST_USE
+#endif
 
 /* The refusals, in checking order. */
 enum {
@@ -55,52 +72,88 @@ enum {
     FIELDMAP_UNBOUNDED = 2 /* any other number means the same; the key is not read */
 };
 
+/* What a negative answer says, in English. */
+static inline const char *fieldmap_refusal_text(int64_t answer) {
+    switch (answer) {
+    case -FIELDMAP_ARCHIVE_TOO_LONG: return "the archive is longer than 1,048,576 bytes";
+    case -FIELDMAP_INVALID_SUBTREE_POINTER: return "the record or a node leaves its range";
+    case -FIELDMAP_UNALIGNED_POINTER: return "the record or a node is not on its alignment";
+    case -FIELDMAP_INVALID_KIND: return "a node is neither a leaf nor an inner node";
+    case -FIELDMAP_EXCEEDED_MAXIMUM_SUBTREE_DEPTH: return "more than 14 nodes are nested";
+    case -FIELDMAP_INVALID_LENGTH: return "a leaf counts more than 5 entries";
+    case -FIELDMAP_ENTRIES_LENGTH_MISMATCH: return "the entries are not as many as recorded";
+    case -FIELDMAP_HOLLOW_NODE: return "a leaf is empty, or an inner node has no first child";
+    case -FIELDMAP_KEYS_NOT_ASCENDING: return "a key is not above the one before";
+    case -FIELDMAP_ITERATOR_LENGTH_MISMATCH: return "there are not as many values as keys";
+    case -FIELDMAP_TOO_MANY_ENTRIES: return "there are more than 40,000 entries";
+    case -FIELDMAP_GIVEN_KEYS_NOT_ASCENDING: return "a given key is not above the one before";
+    case -FIELDMAP_HEADER_TOO_LONG: return "the header is longer than 4,096 bytes";
+    case -FIELDMAP_OUTPUT_TOO_SHORT: return "the output is shorter than header, padding and archive";
+    case -FIELDMAP_ISIZE_OVERFLOW: return "a distance does not fit 64 bits";
+    case -FIELDMAP_OFFSET_OVERFLOW: return "an offset does not fit 32 bits";
+    case -FIELDMAP_INVALID_ALIGNMENT: return "the alignment is none of 1, 2, 4, 8, 16 and 32, or the next position is too large";
+    case -FIELDMAP_KEY_FIELD_OVERFLOW: return "an examination, an eye or a presentation does not fit its field";
+    default: return "no refusal";
+    }
+}
+
 /* The recorded count of an archive that rkyv's check accepts, or the first fault of 1 to 7. */
-uint64_t fieldmap_check(const uint8_t *archive, size_t archive_len);
+FIELDMAP_MUST_USE int64_t fieldmap_check(const uint8_t *archive, size_t archive_len);
 
 /* The recorded count of an accepted archive whose keys strictly ascend and that has no hollow node, or the first fault of 1 to 9. */
-uint64_t fieldmap_certify(const uint8_t *archive, size_t archive_len);
+FIELDMAP_MUST_USE int64_t fieldmap_certify(const uint8_t *archive, size_t archive_len);
 
 /*
  * Each reader below runs the check first, range and column certification, on every call.
  */
 
 /*
- * Looks up a key. Where an entry has it, the answer is 1, and its value and the position of the value's first byte are stored. Where none has,
- * the answer is 0, and nothing is stored.
+ * Looks up a key. Where an entry is found, the answer is 1, and its value and the position of the value's first byte are stored. Where none is,
+ * the answer is 0, and nothing is stored. On a certified archive that is the entry of the walk with that key, or that there is none. On an
+ * archive that is only accepted it is what rkyv's search finds, which can miss an entry that the walk shows.
  */
-uint64_t fieldmap_lookup(const uint8_t *archive, size_t archive_len, uint64_t key, uint64_t *value, uint64_t *position);
+FIELDMAP_MUST_USE int64_t fieldmap_lookup(
+    const uint8_t *archive, size_t archive_len, uint64_t key, uint64_t *value, uint64_t *position);
 
 /*
- * The eight bytes of a key's value, as a part of the archive: the answer is the part's length, 8, and the position where it starts is stored.
- * Where no entry has the key, or the archive is refused, the part is empty: the answer is 0, and nothing is stored.
+ * The eight bytes of the value that fieldmap_lookup finds, as a part of the archive: the answer is the part's length, 8, and the position where
+ * it starts is stored. Where it finds none, the part is empty: the answer is 0, and nothing is stored. It finds and misses what
+ * fieldmap_lookup does.
  */
-uint64_t fieldmap_lookup_bytes(const uint8_t *archive, size_t archive_len, uint64_t key, uint64_t *start);
+FIELDMAP_MUST_USE int64_t fieldmap_lookup_bytes(const uint8_t *archive, size_t archive_len, uint64_t key, uint64_t *start);
 
 /*
- * Looks up keys after one check. The value of a key that is found goes to the place of its key in the values; other places keep what they hold,
- * and keys beyond the values' places, or past the first 4,294,967,295, are not looked up. The number of keys found.
+ * Looks up keys after one check, each as fieldmap_lookup does. The value of a key that is found goes to the place of its key in the values;
+ * other places keep what they hold, and keys beyond the values' places are not looked up. The number of keys found.
  */
-uint64_t fieldmap_lookup_many(
+FIELDMAP_MUST_USE int64_t fieldmap_lookup_many(
     const uint8_t *archive, size_t archive_len, const uint64_t *keys, size_t keys_len, uint64_t *values, size_t values_len);
 
 /*
  * Writes keys and values in the order of the walk until the shorter list is full; other places keep what they hold. The number written; the
  * recorded count is stored.
  */
-uint64_t fieldmap_walk(
+FIELDMAP_MUST_USE int64_t fieldmap_walk(
     const uint8_t *archive, size_t archive_len, uint64_t *keys, size_t keys_len, uint64_t *values, size_t values_len, uint64_t *count);
 
 /*
  * Writes keys and values of the entries of a certified archive that meet both bounds, as a walk does. The number written; the number of entries
  * that match is stored. Where the bounds cross, nothing matches.
  */
-uint64_t fieldmap_range(
+FIELDMAP_MUST_USE int64_t fieldmap_range(
     const uint8_t *archive, size_t archive_len, uint8_t lower_kind, uint64_t lower, uint8_t upper_kind, uint64_t upper,
     uint64_t *keys, size_t keys_len, uint64_t *values, size_t values_len, uint64_t *matching);
 
-/* The range of a column query: the points of one eye of one examination with x from a to b, both included. 18 comes after 1 to 9. */
-uint64_t fieldmap_column(
+/*
+ * The range of a column query, for one eye of one examination. Keys are ordered by the bits of x, in which -128 to -1 come after 0 to 127:
+ *
+ *   a and b both from 0 on, or both below 0    the points with x from a to b, both included
+ *   a below 0, b from 0 on                     nothing; ask from a to -1 and from 0 to b
+ *   a from 0 on, b below 0                     the points with x from a on and those with x up to b
+ *
+ * 18 comes after 1 to 9.
+ */
+FIELDMAP_MUST_USE int64_t fieldmap_column(
     const uint8_t *archive, size_t archive_len, uint32_t examination, uint8_t eye, int8_t a, int8_t b,
     uint64_t *keys, size_t keys_len, uint64_t *values, size_t values_len, uint64_t *matching);
 
@@ -108,31 +161,40 @@ uint64_t fieldmap_column(
  * Writes the given entries as an archive behind the first `header` bytes of the output, which stay, as the bytes past the archive do. The
  * archive's end, or the first of 10 to 14. A reader takes the output up to that end.
  */
-uint64_t fieldmap_build(
+FIELDMAP_MUST_USE int64_t fieldmap_build(
     uint8_t *out, size_t out_len, size_t header, const uint64_t *keys, size_t keys_len, const uint64_t *values, size_t values_len);
+
+/* How long an output has to be for a build of so many entries behind a header: the end that fieldmap_build will answer, or 11 or 13 as there. */
+FIELDMAP_MUST_USE int64_t fieldmap_build_length(size_t entries, size_t header);
 
 /* The parts answer 0 and store what they give. */
 
 /* The signed difference of two positions, or 15. */
-uint64_t fieldmap_signed_offset(uint64_t from, uint64_t to, int64_t *offset);
+FIELDMAP_MUST_USE int64_t fieldmap_signed_offset(uint64_t from, uint64_t to, int64_t *offset);
 
 /* The 32-bit offset from a field to a position, or 15, or 16. */
-uint64_t fieldmap_offset32(uint64_t from, uint64_t to, int32_t *offset);
+FIELDMAP_MUST_USE int64_t fieldmap_offset32(uint64_t from, uint64_t to, int32_t *offset);
 
 /* The offset that marks an absent pointer at a position, or 15. */
-uint64_t fieldmap_absent_offset(uint64_t at, int32_t *offset);
+FIELDMAP_MUST_USE int64_t fieldmap_absent_offset(uint64_t at, int32_t *offset);
 
 /* The next position on an alignment and the number of zeros before it, or 17. */
-uint64_t fieldmap_align(uint64_t pos, uint64_t alignment, uint64_t *next, uint64_t *zeros);
+FIELDMAP_MUST_USE int64_t fieldmap_align(uint64_t pos, uint64_t alignment, uint64_t *next, uint64_t *zeros);
 
 /*
  * The key of an examination's fields, stored where the answer is 0, or 18. The examination has 24 bits, the eye is 0 for the right one and 1
  * for the left, x and y are in degrees, the presentation has 23 bits.
  */
-uint64_t fieldmap_pack(uint32_t examination, uint8_t eye, int8_t x, int8_t y, uint32_t presentation, uint64_t *key);
+FIELDMAP_MUST_USE int64_t fieldmap_pack(uint32_t examination, uint8_t eye, int8_t x, int8_t y, uint32_t presentation, uint64_t *key);
 
-/* Stores the fields of a key. Every key has them, so there is no answer. */
-void fieldmap_unpack(uint64_t key, uint32_t *examination, uint8_t *eye, int8_t *x, int8_t *y, uint32_t *presentation);
+/* Stores the fields of a key. Every key has them: the answer is always 0. */
+int64_t fieldmap_unpack(uint64_t key, uint32_t *examination, uint8_t *eye, int8_t *x, int8_t *y, uint32_t *presentation);
+
+/* Whether the stimulus of a value was seen: 1 or 0. It is the value's highest bit. */
+FIELDMAP_MUST_USE int64_t fieldmap_seen(uint64_t value);
+
+/* The threshold of a value in tenths of a decibel, 0 to 1023. It is the ten bits below the highest. */
+FIELDMAP_MUST_USE int64_t fieldmap_threshold(uint64_t value);
 
 #ifdef __cplusplus
 }
