@@ -2,16 +2,17 @@
 use mathlib.Core.Path.{_≡_, refl, sym, ap, _∙_}
 use mathlib.Core.Bool.{Bool, true, false, not}
 use mathlib.Core.List.{List, [], _∷_}
-use Prim.Native.Nat.{ℕ, suc, _+_, _≤_, _<_}
+use Prim.Native.Nat.{ℕ, zero, suc, _+_, _≤_, _<_}
 use native.Mathlib.Omega.{arith}
 use native.Mathlib.Numerals.{add-one}
 use borrow.Author.Tests.{lt-ltb, le-ltb, le-leb, lt-leb, eq-eqb, ne-eqb}
-use lib.ListN.{length, getD, drop, drop-of-length-le}
+use lib.ListN.{length, getD, drop, replicate, length-replicate, drop-of-length-le}
 use lib.Seq.{drop-cons}
 use Rattle.format.specs.Layout.{layout32}
 use Rattle.format.specs.Bytes.{put}
 use Rattle.format.specs.Refusal.{Answer, gives, refuses}
-use Rattle.format.specs.Build.{treeOf, behind, pairs, risesFrom, rises, build, outBy, outAfter}
+use Rattle.format.specs.Tree.{Pair}
+use Rattle.format.specs.Build.{treeOf, behind, pairs, risesFrom, rises, build, buildLength, outBy, outAfter}
 use Rattle.format.specs.Laws.Build.Built32.{length-pairs}
 use Rattle.builder.specs.Size.{endOf}
 use Rattle.builder.proofs.Whole.{end-is}
@@ -106,3 +107,32 @@ module _ (ks vs : List ℕ) (h : ℕ) (out : List ℕ) where
           answer = ap gives (en ∙ sym (end-is ks vs a b h)) ∙ y;
           after = eo ∙ ap (λ (i : ℕ). put out h (behind layout32 h (treeOf layout32 (pairs ks vs)) i)) (sym (length-pairs ks vs a)) ∙ ap (λ (x : Answer ℕ). outBy layout32 x h (pairs ks vs) out) y;
         }
+
+-- ---- the length for so many entries
+
+module _ (n h : ℕ) where
+  pub length-11 : 40000 < n → refuses 11 ≡ buildLength layout32 n h
+  unfolding buildLength
+  length-11 a = simp (lt-leb n 40000 a)
+
+  module _ (a : n ≤ 40000) where
+    pub length-13 : 4096 < h → refuses 13 ≡ buildLength layout32 n h
+    unfolding buildLength
+    length-13 b = simp (le-leb n 40000 a, lt-leb h 4096 b)
+
+    pub length-accepted : h ≤ 4096 → (e : ℕ) → e ≡ endOf n h → gives e ≡ buildLength layout32 n h
+    unfolding buildLength
+    length-accepted b e ee = simp (le-leb n 40000 a, le-leb h 4096 b) (ap gives (ee ∙ sym ends))
+      where
+        noughts : (n : ℕ) → pairs (replicate n 0) (replicate n 0) ≡ replicate n (record { key = 0; value = 0 })
+        noughts zero = refl
+        noughts (suc n) = ap (λ (l : List Pair). record { key = 0; value = 0 } ∷ l) (noughts n)
+
+        ends : h + length (behind layout32 h (treeOf layout32 (replicate n (record { key = 0; value = 0 }))) n) ≡ endOf n h
+        ends =
+            let ks : List ℕ = replicate n 0 in
+            let el : length ks ≡ n = length-replicate n 0 in
+            ap (λ (l : List Pair). h + length (behind layout32 h (treeOf layout32 l) n)) (sym (noughts n))
+            ∙ ap (λ (x : ℕ). h + length (behind layout32 h (treeOf layout32 (pairs ks ks)) x)) (sym el)
+            ∙ end-is ks ks refl (omega arith) h
+            ∙ ap (λ (x : ℕ). endOf x h) el

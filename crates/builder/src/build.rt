@@ -13,7 +13,7 @@ ghost use lib.ListN.{length};
 ghost use Rattle.format.specs.Layout.{layout32};
 ghost use Rattle.format.specs.Bytes.{put};
 ghost use Rattle.format.specs.Tree.{noneB};
-ghost use Rattle.format.specs.Build.{treeOf, behind, pairs, rises, build, outAfter};
+ghost use Rattle.format.specs.Build.{treeOf, behind, pairs, rises, build, buildLength, outAfter};
 ghost use Rattle.builder.specs.Size.{endOf};
 ghost use Rattle.builder.specs.Answers.{builtOf};
 
@@ -89,6 +89,19 @@ pub fn build(out: &mut [u8], header: usize, keys: &[u64], values: &[u64]) -> Bui
     }
     build_some(out, header, keys, values);
     BuildAnswer::Built(end)
+}
+
+// How long the output has to be for so many entries behind a header.
+pub fn build_length(entries: usize, header: usize) -> BuildAnswer
+    ensures { λ r. ⌜ builtOf r ≡ buildLength layout32 entries header ⌝ }
+{
+    if Most::ENTRIES < entries {
+        return BuildAnswer::Refused(Refusal::TooManyEntries);
+    }
+    if Most::HEADER < header {
+        return BuildAnswer::Refused(Refusal::HeaderTooLong);
+    }
+    BuildAnswer::Built(end_of(entries, header))
 }
 
 // The largest number of entries, and the longest header in bytes.

@@ -23,10 +23,10 @@ ghost use Rattle.format.specs.Layout.{layout32, standard};
 ghost use Rattle.format.specs.Refusal.{checkOf, number};
 ghost use Rattle.format.specs.RelPtr.{signedOffset, storedOffset, absentOffset};
 ghost use Rattle.format.specs.Align.{alignStep};
-ghost use Rattle.format.specs.Key.{packKey, fieldsOf};
+ghost use Rattle.format.specs.Key.{packKey, fieldsOf, seen, threshold};
 ghost use Rattle.format.specs.Check.{counted, checkArchive};
 ghost use Rattle.format.specs.Certify.{certify};
-ghost use Rattle.format.specs.Build.{build, outAfter};
+ghost use Rattle.format.specs.Build.{build, buildLength, outAfter};
 ghost use Rattle.format.specs.Calls.{lookupCall, bytesCall, placeCall, walkCall, walkKeys, walkValues, rangeCall, rangeKeys, rangeValues, columnCall, columnKeys, columnValues};
 ghost use Rattle.fields.specs.Answers.{distanceOf, storedOf, alignedOf};
 ghost use Rattle.builder.specs.Answers.{builtOf};
@@ -81,7 +81,8 @@ pub fn certify(archive: &[u8]) -> CheckAnswer
     }
 }
 
-// The entry with a key, on any accepted archive.
+// The entry that rkyv's search finds. On a certified archive it is the list's with that key, or there is none; on one that is only accepted the
+// search can miss an entry that the walk shows.
 pub fn lookup(archive: &[u8], key: u64) -> LookupAnswer
     ensures { λ r. ⌜ lookupOf r ≡ lookupCall layout32 standard (now (archive .entry)) key ⌝ }
 {
@@ -101,7 +102,8 @@ pub fn lookup(archive: &[u8], key: u64) -> LookupAnswer
     }
 }
 
-// The eight bytes of its value, as a part of the archive; where there is none or the archive is refused, the empty part at its start.
+// The eight bytes of the value that a lookup finds, as a part of the archive; where it finds none or the archive is refused, the empty part at its
+// start.
 pub fn lookup_bytes<'a>(archive: &'a [u8], key: u64) -> &'a [u8]
     ensures place { λ r. ⌜ ptr r ≡ placeCall layout32 standard (now (archive .entry)) (ptr (archive .entry)) key ⌝ }
     ensures bytes { λ r. ⌜ now r ≡ bytesCall layout32 standard (now (archive .entry)) key ⌝ }
@@ -164,7 +166,8 @@ pub fn range(
     }
 }
 
-// The range of a column query: one eye of one examination, x from a to b.
+// The range of a column query, for one eye of one examination. Where a and b are both from 0 on or both below 0, the entries with x from a to b; where
+// a is below 0 and b is not, none; where b is below 0 and a is not, those with x from a on and those with x up to b.
 pub fn column(
     archive: &[u8],
     examination: u32,
@@ -202,6 +205,13 @@ pub fn build(out: &mut [u8], header: usize, keys: &[u64], values: &[u64]) -> Bui
     ensures bytes { λ r. ⌜ now (out .exit) ≡ outAfter layout32 (now (keys .entry)) (now (values .entry)) header (now (out .entry)) ⌝ }
 {
     builder::build::build(out, header, keys, values)
+}
+
+// How long the output has to be for so many entries behind a header: where `build` will end.
+pub fn build_length(entries: usize, header: usize) -> BuildAnswer
+    ensures { λ r. ⌜ builtOf r ≡ buildLength layout32 entries header ⌝ }
+{
+    builder::build::build_length(entries, header)
 }
 
 // The signed difference of two positions.
@@ -242,6 +252,20 @@ pub fn unpack(key: u64) -> KeyFields
     ensures { λ r. ⌜ unpackedOf r ≡ fieldsOf key ⌝ }
 {
     perimetry::key::unpack(key)
+}
+
+// Whether the stimulus of a value was seen.
+pub fn seen(value: u64) -> bool
+    ensures { λ r. ⌜ r ≡ seen value ⌝ }
+{
+    perimetry::value::is_seen(value)
+}
+
+// The threshold of a value in tenths of a decibel.
+pub fn threshold(value: u64) -> u16
+    ensures { λ r. ⌜ r ≡ threshold value ⌝ }
+{
+    perimetry::value::threshold(value)
 }
 
 // A refusal's number in the order of the tests.

@@ -1,4 +1,6 @@
-// The column query: for one eye of one examination, the range of keys whose x is from a to b.
+// The column query: for one eye of one examination, the range of keys from the first of x = a to the last of x = b. Keys are ordered by the bits of x,
+// in which -128 to -1 come after 0 to 127. Where a and b are both from 0 on or both below 0, these are the keys with x from a to b; where a is below 0
+// and b is not, there are none; where b is below 0 and a is not, those with x from a on and those with x up to b.
 use crate::key::Count;
 use crate::key::key_of;
 use fields::twos::bits8;

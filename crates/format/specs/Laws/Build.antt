@@ -5,6 +5,7 @@ pub mod Filling
 pub mod Height
 pub mod Built
 pub mod Built32
+pub mod Lengths
 pub mod Turns
 pub mod Subtrees
 pub mod LastLevel

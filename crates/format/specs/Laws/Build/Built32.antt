@@ -60,7 +60,7 @@ part-few : {m c x : ℕ} → Part layout32 m c x → x ≤ 5
 part-few (whole e) = omega arith
 part-few (partial a b l) = l
 
-start-near : (b : Branch) (h : ℕ) → start layout32 b h < h + 8
+pub start-near : (b : Branch) (h : ℕ) → start layout32 b h < h + 8
 start-near noneB h = omega (arith, zeros-lt 4 h (omega arith))
 start-near (someB t) h = omega (arith, zeros-lt 8 h (omega arith))
 
@@ -128,7 +128,7 @@ values-list (x ∷ l) = ap (λ (r : List ℕ). x .value ∷ r) (values-list l)
 
 -- ---- the theorem
 
-provided-inv : {A : Type 0} (b : Bool) (n : ℕ) (a : Answer A) {x : A} → provided b n a ≡ gives x → (b ≡ true) × (a ≡ gives x)
+pub provided-inv : {A : Type 0} (b : Bool) (n : ℕ) (a : Answer A) {x : A} → provided b n a ≡ gives x → (b ≡ true) × (a ≡ gives x)
 provided-inv true n a e = (refl, e)
 provided-inv false n a e = let z : _≡_ {A = ℕ} 0 1 = cc in absurd (omega arith)
 

@@ -38,7 +38,7 @@ module _ (L : Layout) where
   length-emplaced (gives z) = length-leBytes _ _
   length-emplaced (refuses r) = length-leBytes _ _
 
-  length-head : (k : ℕ) (es : List Pair) → length (head L k es) ≡ headSize L
+  pub length-head : (k : ℕ) (es : List Pair) → length (head L k es) ≡ headSize L
   unfolding head
   length-head k es = simp (length-append, length-column) (omega arith)
 

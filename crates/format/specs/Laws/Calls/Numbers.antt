@@ -1,10 +1,12 @@
 -- How large the numbers are that the calls give: over bytes, the recorded count and the numbers written fit the count's field, and a build ends no
 -- later than the longest archive. Assumes nothing.
-use Prim.Native.Nat.{ℕ, _+_, _^_, _≤_, _<_}
+use Prim.Native.Nat.{ℕ, zero, suc, _+_, _^_, _≤_, _<_}
 use mathlib.Core.Path.{_≡_, refl, sym, _∙_, ap}
-use mathlib.Core.List.{List}
+use mathlib.Core.List.{List, [], _∷_}
 use native.Mathlib.Omega.{arith}
 use lib.IntN.{ℤ}
+use lib.Dec.{leb, lit<, lit≤}
+use borrow.Author.Tests.{leb-true}
 use lib.ListN.{length, replicate, length-replicate}
 use Rattle.format.specs.declared.Bound.{Bound}
 use Rattle.format.specs.Layout.{Layout, Limits, layout32, standard, pointer}
@@ -16,14 +18,17 @@ use Rattle.format.specs.Certify.{certify}
 use Rattle.format.specs.Entries.{list}
 use Rattle.format.specs.Range.{matches, range}
 use Rattle.format.specs.Written.{written}
-use Rattle.format.specs.Build.{pairs, build, archive}
+use Rattle.format.specs.Tree.{Pair, lengthBranch}
+use Rattle.format.specs.Build.{treeOf, behind, pairs, build, buildLength, archive}
 use Rattle.format.specs.Calls.{Walk, Matched, walkCall, rangeCall, columnCall}
 use Rattle.format.specs.Laws.Numbers.Bytes.{leAt-lt}
 use Rattle.format.specs.Laws.Check.Archive.{list-length}
 use Rattle.format.specs.Laws.Range.Ranged.{select-few}
 use Rattle.format.specs.Laws.Calls.Opened.{is-archive, is-recorded, not-long, walk-refuses, walk-accepted, certified-accepts}
 use Rattle.format.specs.Laws.Calls.Opened.{range-refuses, range-certified, column-ranges, column-uncertified, column-refused}
-use Rattle.format.specs.Laws.Build.Built32.{build-certifies}
+use Rattle.format.specs.Laws.Build.Trees.{AllFit}
+use Rattle.format.specs.Laws.Build.Built32.{start-near, small-tree, provided-inv, build-certifies}
+use Rattle.format.specs.Laws.Build.Lengths.{behind-length}
 use Rattle.format.specs.Laws.Calls.Refusals.{given}
 
 module _ (L : Layout) (M : Limits) (s : List ℕ) (b : AllBytes s) where
@@ -74,3 +79,22 @@ build-fits ks vs h room n wk wv e =
     let C = build-certifies front ks vs room n wk wv (ap (λ (x : ℕ). build layout32 ks vs x room) (length-replicate h 0) ∙ e) in
     let s = archive layout32 front (pairs ks vs) in
     omega (arith, C .length-is, not-long layout32 standard s (length ks) (certified-accepts layout32 standard s (length ks) (C .certified)))
+
+pub length-fits : (n h m : ℕ) → buildLength layout32 n h ≡ gives m → m ≤ standard .longest
+unfolding buildLength treeOf standard
+length-fits n h m e =
+    let es : List Pair = replicate n (record { key = 0; value = 0 }) in
+    let b = treeOf layout32 es in
+    let (few, e₁) = provided-inv (leb n 40000) _ _ e in
+    let (low, e₂) = provided-inv (leb h 4096) _ _ e₁ in
+    let em : m ≡ h + length (behind layout32 h b n) = cc in
+    let el = length-replicate {A = Pair} n (record { key = 0; value = 0 }) in
+    omega (arith, leb-true n 40000 few, leb-true h 4096 low, behind-length layout32 h n b, start-near b h, short es (fit n) (omega (arith, el, leb-true n 40000 few)))
+  where
+    fit : (n : ℕ) → AllFit (replicate n (record { key = 0; value = 0 }))
+    fit zero = tt
+    fit (suc n) = (record { key = lit< tt; value = lit< tt }, fit n)
+
+    short : (es : List Pair) → AllFit es → length es ≤ 40000 → lengthBranch layout32 (treeOf layout32 es) ≤ 896112
+    short [] f l = lit≤ tt
+    short (x ∷ es) f l = small-tree x es l f .short

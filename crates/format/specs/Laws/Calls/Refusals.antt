@@ -19,7 +19,7 @@ use Rattle.format.specs.Align.{isAlignment, zerosTo, alignStep}
 use Rattle.format.specs.Key.{Column, packKey, columnBounds}
 use Rattle.format.specs.Check.{Checked, accepted, refused, counted, checkArchive}
 use Rattle.format.specs.Certify.{certify}
-use Rattle.format.specs.Build.{treeOf, behind, pairs, rises, build}
+use Rattle.format.specs.Build.{treeOf, behind, pairs, rises, build, buildLength}
 use Rattle.format.specs.Calls.{lookupCall, walkCall, rangeCall, columnCall, columnKeys, columnValues}
 use Rattle.format.specs.Laws.Numbers.RelPtr.{absent-last, stored-15, offset-behind, fits-refused}
 use Rattle.format.specs.Laws.Build.Stands.{absent-fits}
@@ -104,6 +104,10 @@ build-by L ks vs h room =
     (by-provided (leb (length ks) 40000) 11 _ (omega arith) (omega arith)
     (by-provided (rises ks) 12 _ (omega arith) (omega arith)
     (by-provided (leb h 4096) 13 _ (omega arith) (omega arith) (by-provided (leb n room) 14 _ (omega arith) (omega arith) (by-gives n)))))
+
+pub length-by : (L : Layout) (n h : ℕ) → RefusesBy 11 13 (buildLength L n h)
+unfolding buildLength
+length-by L n h = by-provided (leb n 40000) 11 _ (omega arith) (omega arith) (by-provided (leb h 4096) 13 _ (omega arith) (omega arith) (by-gives _))
 
 -- ---- check and certify
 

@@ -1,17 +1,23 @@
--- Laws of the key packing and the column query: one for each way out, and that packing and unpacking undo each other. Assumes nothing.
-use mathlib.Core.Path.{_≡_, ap, ap₂, _∙_}
+-- Laws of the key packing and the column query: one for each way out, that packing and unpacking undo each other, and which entries a column query
+-- gives where its ends lie on one side of 0, and where they do not. Assumes nothing.
+use mathlib.Core.Path.{_≡_, refl, sym, ap, ap₂, _∙_}
+use mathlib.Core.Bool.{Bool, true, false, true≢false}
+use mathlib.Core.Logic.{_⊎_, inl, inr}
 use Prim.Native.Nat.{ℕ, _-_, _/_, _%_, _^_, _≤_, _<_}
 use native.Mathlib.Nat.{div-div-eq-div-mul}
 use native.Mathlib.Omega.{arith}
 use native.Mathlib.Decide.{decLt}
-use borrow.Author.Tests.{lt-ltb, le-ltb}
-use lib.IntN.{ℤ}
-use lib.Signed.{mag}
+use lib.Dec.{leb, le→leb, leb→le}
+use borrow.Author.Tests.{lt-ltb, le-ltb, le-leb, leb-true}
+use lib.IntN.{ℤ, pos, negsuc}
+use lib.Signed.{mag, nonNeg, _≤ℤ_}
+use Rattle.format.specs.declared.Entry.{Entry}
 use Rattle.format.specs.declared.Bound.the-variants.{Included}
 use Rattle.format.specs.Refusal.{gives, refuses}
 use Rattle.format.specs.Signed.{twos, ofTwos}
-use Rattle.format.specs.Key.{keyOf, packKey, KeyFields, fieldsOf, columnBounds}
-use Rattle.format.specs.Laws.Numbers.Signed.{twos-lt, ofTwos-twos, twos-ofTwos}
+use Rattle.format.specs.Key.{keyOf, packKey, KeyFields, fieldsOf, OfEye, Column, columnBounds}
+use Rattle.format.specs.Range.{matches}
+use Rattle.format.specs.Laws.Numbers.Signed.{twos-lt, ofTwos-low, ofTwos-high, ofTwos-twos, twos-ofTwos}
 
 pub pack-no-exam : (exam eye : ℕ) (x y : ℤ) (pres : ℕ) → 2 ^ 24 ≤ exam → packKey exam eye x y pres ≡ refuses 18
 unfolding packKey
@@ -101,3 +107,140 @@ module _ (exam eye : ℕ) (a b : ℤ) where
       → columnBounds exam eye a b ≡ gives (record { lower = Included l; upper = Included u })
   unfolding columnBounds
   column-given l u g h e f = rw (lt-ltb exam (2 ^ 24) g, lt-ltb eye 2 h, e, f)
+
+-- ---- what a column query gives
+
+-- Both from 0 on, or both below 0.
+abbrev pub OneSide : ℤ → ℤ → Type 0
+OneSide a b = nonNeg a ≡ nonNeg b
+
+module _ (exam eye a b k : ℕ) (h₁ : exam < 2 ^ 24) (h₂ : eye < 2) (h₃ : a < 256) (h₄ : b < 256) where
+  -- The keys between the ends, by the bits of x.
+  bits-in : keyOf exam eye a 0 0 ≤ k → k ≤ keyOf exam eye b (2 ^ 8 - 1) (2 ^ 23 - 1)
+      → (k / 2 ^ 40 ≡ exam) × (k / 2 ^ 39 % 2 ≡ eye) × (a ≤ k / 2 ^ 31 % 256) × (k / 2 ^ 31 % 256 ≤ b)
+  bits-in l u = (omega arith, omega arith, omega arith, omega arith)
+
+  in-bits : k / 2 ^ 40 ≡ exam → k / 2 ^ 39 % 2 ≡ eye → a ≤ k / 2 ^ 31 % 256 → k / 2 ^ 31 % 256 ≤ b
+      → (keyOf exam eye a 0 0 ≤ k) × (k ≤ keyOf exam eye b (2 ^ 8 - 1) (2 ^ 23 - 1))
+  in-bits e f l u = (omega arith, omega arith)
+
+-- Numbers of eight bits in the order of their bits, in which those below 0 come last.
+abbrev Small : ℤ → Type 0
+Small z = mag z < 128
+
+between : (a b x : ℤ) → Small a → Small b → Small x → OneSide a b → twos 7 a ≤ twos 7 x → twos 7 x ≤ twos 7 b → (a ≤ℤ x) × (x ≤ℤ b)
+unfolding twos
+between (pos m) (pos n) (pos k) ha hb hx o l u = (record { le = le→leb m k l }, record { le = le→leb k n u })
+between (pos m) (pos n) (negsuc k) ha hb hx o l u = absurd (omega arith)
+between (pos m) (negsuc n) x ha hb hx o l u = absurd (true≢false o)
+between (negsuc m) (pos n) x ha hb hx o l u = absurd (true≢false (sym o))
+between (negsuc m) (negsuc n) (pos k) ha hb hx o l u = absurd (omega arith)
+between (negsuc m) (negsuc n) (negsuc k) ha hb hx o l u = (record { le = le→leb k m (omega arith) }, record { le = le→leb n k (omega arith) })
+
+between-bits : (a b x : ℤ) → Small a → Small b → Small x → OneSide a b → a ≤ℤ x → x ≤ℤ b → (twos 7 a ≤ twos 7 x) × (twos 7 x ≤ twos 7 b)
+unfolding twos
+between-bits (pos m) (pos n) (pos k) ha hb hx o l u = (leb→le m k (l .le), leb→le k n (u .le))
+between-bits (pos m) (pos n) (negsuc k) ha hb hx o l u = absurd (l .le)
+between-bits (pos m) (negsuc n) x ha hb hx o l u = absurd (true≢false o)
+between-bits (negsuc m) (pos n) x ha hb hx o l u = absurd (true≢false (sym o))
+between-bits (negsuc m) (negsuc n) (pos k) ha hb hx o l u = absurd (u .le)
+between-bits (negsuc m) (negsuc n) (negsuc k) ha hb hx o l u = (omega (arith, leb→le k m (l .le)), omega (arith, leb→le n k (u .le)))
+
+none-across : (a b x : ℤ) → Small a → Small b → nonNeg a ≡ false → nonNeg b ≡ true → twos 7 a ≤ twos 7 x → twos 7 x ≤ twos 7 b → ⊥
+unfolding twos
+none-across (pos m) b x ha hb p q l u = true≢false p
+none-across (negsuc m) (negsuc n) x ha hb p q l u = true≢false (sym q)
+none-across (negsuc m) (pos n) x ha hb p q l u = omega arith
+
+around : (a b x : ℤ) → Small a → Small b → Small x → nonNeg a ≡ true → nonNeg b ≡ false → twos 7 a ≤ twos 7 x → twos 7 x ≤ twos 7 b → (a ≤ℤ x) ⊎ (x ≤ℤ b)
+unfolding twos
+around (negsuc m) b x ha hb hx p q l u = absurd (true≢false (sym p))
+around (pos m) (pos n) x ha hb hx p q l u = absurd (true≢false q)
+around (pos m) (negsuc n) (pos k) ha hb hx p q l u = inl (record { le = le→leb m k l })
+around (pos m) (negsuc n) (negsuc k) ha hb hx p q l u = inr (record { le = le→leb n k (omega arith) })
+
+around-bits : (a b x : ℤ) → Small a → Small b → Small x → nonNeg a ≡ true → nonNeg b ≡ false → (a ≤ℤ x) ⊎ (x ≤ℤ b) → (twos 7 a ≤ twos 7 x) × (twos 7 x ≤ twos 7 b)
+unfolding twos
+around-bits (negsuc m) b x ha hb hx p q s = absurd (true≢false (sym p))
+around-bits (pos m) (pos n) x ha hb hx p q s = absurd (true≢false q)
+around-bits (pos m) (negsuc n) (pos k) ha hb hx p q (inl l) = (leb→le m k (l .le), omega arith)
+around-bits (pos m) (negsuc n) (pos k) ha hb hx p q (inr u) = absurd (u .le)
+around-bits (pos m) (negsuc n) (negsuc k) ha hb hx p q (inl l) = absurd (l .le)
+around-bits (pos m) (negsuc n) (negsuc k) ha hb hx p q (inr u) = (omega arith, omega (arith, leb→le n k (u .le)))
+
+small-x : (n : ℕ) → n < 256 → Small (ofTwos 7 n)
+small-x n h = elim (decLt n 128) [ yes l ↦ rw (ofTwos-low 7 n l) l | no l ↦ rw (ofTwos-high 7 n (omega arith)) (omega arith) ]
+
+module _ (exam eye : ℕ) (a b : ℤ) (ha : mag a < 128) (hb : mag b < 128) (c : Column) (g : columnBounds exam eye a b ≡ gives c) where
+  abbrev low : ℕ
+  low = keyOf exam eye (twos 7 a) 0 0
+
+  abbrev high : ℕ
+  high = keyOf exam eye (twos 7 b) (2 ^ 8 - 1) (2 ^ 23 - 1)
+
+  ends : (exam < 2 ^ 24) × (eye < 2) × (c ≡ record { lower = Included low; upper = Included high })
+  ends = go (decLt exam (2 ^ 24)) (decLt eye 2)
+    where
+      given : columnBounds exam eye a b ≡ refuses 18 → ⊥
+      given r = let z : _≡_ {A = ℕ} 0 1 = cc in omega arith
+
+      go : Dec (exam < 2 ^ 24) → Dec (eye < 2) → (exam < 2 ^ 24) × (eye < 2) × (c ≡ record { lower = Included low; upper = Included high })
+      go (no h) d = absurd (given (column-no-exam exam eye a b (omega arith)))
+      go (yes f) (no h) = absurd (given (column-no-eye exam eye a b f (omega arith)))
+      go (yes f) (yes h) = let z = column-given exam eye a b low high f h refl refl in (f, h, cc)
+
+  module _ (e : Entry) where
+    abbrev degrees : ℤ
+    degrees = fieldsOf (e .key) .x
+
+    abbrev matched : Bool
+    matched = matches (c .lower) (c .upper) e
+
+    within : matched ≡ true → OfEye exam eye (e .key) × (twos 7 a ≤ twos 7 degrees) × (twos 7 degrees ≤ twos 7 b)
+    within m =
+        let (f, h, ec) = ends in
+        let ex = twos-ofTwos 7 (e .key / 2 ^ 31 % 256) (omega arith) in
+        let t : matches (Included low) (Included high) e ≡ true = ap (λ (d : Column). matches (d .lower) (d .upper) e) (sym ec) ∙ m in
+        let (l, u) = both (leb low (e .key)) (leb (e .key) high) t in
+        let (p, q, r, s) = bits-in exam eye (twos 7 a) (twos 7 b) (e .key) f h (twos-lt 7 a ha) (twos-lt 7 b hb) (leb-true _ _ l) (leb-true _ _ u) in
+        ((p, q), omega (arith, ex), omega (arith, ex))
+      where
+        both : (x y : Bool) → elim x [ true ↦ y | false ↦ false ] ≡ true → (x ≡ true) × (y ≡ true)
+        both true y t = (refl, t)
+        both false y t = absurd (true≢false (sym t))
+
+    passes : OfEye exam eye (e .key) → twos 7 a ≤ twos 7 degrees → twos 7 degrees ≤ twos 7 b → matched ≡ true
+    passes o l u =
+        let (f, h, ec) = ends in
+        let ex = twos-ofTwos 7 (e .key / 2 ^ 31 % 256) (omega arith) in
+        let (p, q) = in-bits exam eye (twos 7 a) (twos 7 b) (e .key) f h (twos-lt 7 a ha) (twos-lt 7 b hb) (o .0) (o .1) (omega (arith, ex)) (omega (arith, ex)) in
+        ap (λ (d : Column). matches (d .lower) (d .upper) e) ec ∙ both (leb low (e .key)) _ (le-leb _ _ p) (le-leb (e .key) high q)
+      where
+        both : (x y : Bool) → x ≡ true → y ≡ true → elim x [ true ↦ y | false ↦ false ] ≡ true
+        both true y ex ey = ey
+        both false y ex ey = ex
+
+    small : mag degrees < 128
+    small = small-x (e .key / 2 ^ 31 % 256) (omega arith)
+
+    -- Where a and b lie on one side of 0, an entry matches exactly if it is of that examination and eye and its x is from a to b.
+    pub column-one-side : OneSide a b
+        → (matched ≡ true → OfEye exam eye (e .key) × (a ≤ℤ degrees) × (degrees ≤ℤ b)) × (OfEye exam eye (e .key) → a ≤ℤ degrees → degrees ≤ℤ b → matched ≡ true)
+    column-one-side o =
+        (λ m. let (i, l, u) = within m in let (p, q) = between a b degrees ha hb small o l u in (i, p, q),
+        λ i p q. let (l, u) = between-bits a b degrees ha hb small o p q in passes i l u)
+
+    -- From below 0 to 0 or above, nothing matches.
+    pub column-across : nonNeg a ≡ false → nonNeg b ≡ true → matched ≡ false
+    column-across p q = no-match matched (λ m. let (i, l, u) = within m in none-across a b degrees ha hb p q l u)
+      where
+        no-match : (m : Bool) → (m ≡ true → ⊥) → m ≡ false
+        no-match true h = absurd (h refl)
+        no-match false h = refl
+
+    -- From 0 or above to below 0, an entry of that examination and eye matches exactly if its x is from a on or up to b.
+    pub column-around : nonNeg a ≡ true → nonNeg b ≡ false
+        → (matched ≡ true → OfEye exam eye (e .key) × ((a ≤ℤ degrees) ⊎ (degrees ≤ℤ b))) × (OfEye exam eye (e .key) → (a ≤ℤ degrees) ⊎ (degrees ≤ℤ b) → matched ≡ true)
+    column-around p q =
+        (λ m. let (i, l, u) = within m in (i, around a b degrees ha hb small p q l u),
+        λ i s. let (l, u) = around-bits a b degrees ha hb small p q s in passes i l u)
