@@ -1,9 +1,12 @@
 -- What the equation of a call says of its coded answer and of a lent number. Assumes nothing.
-use Prim.Native.Nat.{ℕ, _+_, _<_}
+use Prim.Native.Nat.{ℕ, zero, suc, _≤_, zero-le}
 use mathlib.Core.Path.{_≡_, refl, sym, ap, _∙_}
 use mathlib.Core.List.{List, []}
 use native.Mathlib.Omega.{arith}
+use lib.Dec.{le→leb}
+use lib.IntN.{ℤ, pos, negℤ}
 use lib.ListN.{take, drop}
+use lib.Signed.{_≤ℤ_, _<ℤ_}
 use Rattle.format.specs.declared.CheckAnswer.{CheckAnswer}
 use Rattle.format.specs.declared.CheckAnswer.the-variants.{Accepted, Refused}
 use Rattle.format.specs.declared.Refusal.{Refusal}
@@ -15,27 +18,42 @@ use Rattle.format.specs.Calls.{lookupCall, bytesCall}
 use Rattle.format.specs.declared.Entry.{Entry}
 use Rattle.format.specs.declared.Found.{Found}
 use Rattle.format.specs.declared.Found.the-variants.{Entry as found, Nothing as nothing}
-use Rattle.exports.specs.Answers.{coded, Tells, stored, storedFound}
+use Rattle.exports.specs.Answers.{coded, Tells, stored, lengthTold, storedFound}
 use Rattle.exports.proofs.Small.{number-listed}
 
-module _ {A : Type 0} (f : A → ℕ) {a : Answer A} where
-  pub code-given : {x : A} → a ≡ gives x → f x ≡ coded f a
-  code-given e = sym (ap (coded f) e)
+module _ {A : Type 0} (f : A → ℕ) {a : Answer A} {z : ℤ} where
+  pub code-given : {x : A} → a ≡ gives x → z ≡ pos (f x) → z ≡ coded f a
+  code-given e h = h ∙ sym (ap (coded f) e)
 
-  pub code-refused : {r n : ℕ} → a ≡ refuses r → n ≡ 4294967296 + r → n ≡ coded f a
+  pub code-refused : {r : ℕ} → a ≡ refuses r → z ≡ negℤ (pos r) → z ≡ coded f a
   code-refused e h = h ∙ sym (ap (coded f) e)
 
-module _ {A : Type 0} {r : ℕ} {a : Answer A} where
-  pub told-given : {x : A} → a ≡ gives x → r < 4294967296 → Tells r a
-  told-given e h = rw e h
+not-below : (n : ℕ) → pos 0 ≤ℤ pos n
+not-below n = record { le = le→leb 0 n zero-le }
 
-  pub told-refused : (why : Refusal) → a ≡ refuses (number why) → r ≡ 4294967296 + number why → Tells r a
-  told-refused why e h = rw e (h, number-listed why .0, number-listed why .1)
+below : (n : ℕ) → 1 ≤ n → negℤ (pos n) <ℤ pos 0
+below zero h = absurd (omega arith)
+below (suc n) h = record { lt = tt }
 
--- Of an answer of check or certify, whose count is small.
-pub told-counted : {r : ℕ} {a : Answer ℕ} (c : CheckAnswer) → checkOf c ≡ a → ((n : ℕ) → a ≡ gives n → n < 4294967296) → r ≡ coded (λ n. n) a → Tells r a
-told-counted (Accepted n) e small er = let z = er ∙ ap (coded (λ (n : ℕ). n)) (sym e) in told-given (sym e) (omega (arith, small n (sym e), z))
-told-counted (Refused why) e small er = told-refused why (sym e) (er ∙ ap (coded (λ (n : ℕ). n)) (sym e))
+module _ {A : Type 0} {z : ℤ} {a : Answer A} where
+  pub told-given : {x : A} {n : ℕ} → a ≡ gives x → z ≡ pos n → Tells z a
+  told-given {n = n} e h = rw (e, h) (not-below n)
+
+  pub told-refused : (why : Refusal) → a ≡ refuses (number why) → z ≡ negℤ (pos (number why)) → Tells z a
+  told-refused why e h = let l = number-listed why in rw (e, h) (below (number why) (l .0), l .0, l .1)
+
+-- A refusal tells no length.
+pub no-bytes : {z : ℤ} (why : Refusal) (l : List ℕ) → z ≡ negℤ (pos (number why)) → take (lengthTold z) l ≡ []
+no-bytes why l e = ap (λ (z : ℤ). take (lengthTold z) l) e ∙ by (number why)
+  where
+    by : (r : ℕ) → take (lengthTold (negℤ (pos r))) l ≡ []
+    by zero = refl
+    by (suc r) = refl
+
+-- Of an answer of check or certify.
+pub told-counted : {z : ℤ} {a : Answer ℕ} (c : CheckAnswer) → checkOf c ≡ a → z ≡ coded (λ n. n) a → Tells z a
+told-counted (Accepted n) e ez = told-given (sym e) (ez ∙ ap (coded (λ (n : ℕ). n)) (sym e))
+told-counted (Refused why) e ez = told-refused why (sym e) (ez ∙ ap (coded (λ (n : ℕ). n)) (sym e))
 
 module _ {A B : Type 0} (f : A → B) (v : B) {a : Answer A} where
   pub store-given : {x : A} → a ≡ gives x → f x ≡ stored f a v

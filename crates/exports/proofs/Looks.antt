@@ -14,7 +14,7 @@ use Rattle.format.specs.RelPtr.{at, target}
 use Rattle.format.specs.Check.{counted, checkArchive}
 use Rattle.format.specs.Lookup.{lookup, lookupAt}
 use Rattle.format.specs.Laws.Calls.Opened.{gives-inv, refuses-inv, lookup-accepted, lookup-none, lookup-gives}
-use Rattle.exports.specs.Many.{Many, many, store, firstMany, mostKeys, sought, allMany, manyCall, manyValues}
+use Rattle.exports.specs.Many.{Many, many, store, firstMany, sought, allMany, manyCall, manyValues}
 
 -- ---- one key
 
@@ -55,8 +55,8 @@ module _ (look : ℕ → Found) (ks vs : List ℕ) where
     pub first-more : (us′ : List ℕ) (n′ : ℕ) → many us′ n′ ≡ store (look (getD ks i 0)) i (many us n) → many us′ n′ ≡ firstMany look ks vs (i + 1)
     first-more us′ n′ t = t ∙ ap (store (look (getD ks i 0)) i) e ∙ sym (first-suc i) ∙ ap (firstMany look ks vs) (sym (add-one i))
 
-    pub first-all : (l m : ℕ) → l ≡ min (length ks) (length vs) → m ≡ min l mostKeys → i ≤ m → m ≤ i → many us n ≡ allMany look ks vs
-    first-all l m el em h g = let z : i ≡ sought ks vs = omega arith in e ∙ ap (firstMany look ks vs) z
+    pub first-all : (m : ℕ) → m ≡ min (length ks) (length vs) → i ≤ m → m ≤ i → many us n ≡ allMany look ks vs
+    first-all m em h g = let z : i ≡ sought ks vs = omega arith in e ∙ ap (firstMany look ks vs) z
 
 -- Lookups that agree leave the same.
 same-first : (f g : ℕ → Found) → ((k : ℕ) → f k ≡ g k) → (ks vs : List ℕ) (n : ℕ) → firstMany f ks vs n ≡ firstMany g ks vs n

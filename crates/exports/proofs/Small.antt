@@ -1,5 +1,13 @@
--- The refusals' numbers are 1 to 18. Assumes nothing.
-use Prim.Native.Nat.{_≤_}
+-- The refusals' numbers are 1 to 18, and minus a number as the machine makes it. Assumes nothing.
+use mir.Syntax.{w64}
+use mir.Val.{toZ, ofZ, SFits}
+use mir.Facts.{toZ-pos, toZ-ofZ}
+use Prim.Native.Nat.{ℕ, zero, suc, _≤_, _<_, _^_}
+use mathlib.Core.Path.{_≡_, sym, ap, _∙_, subst}
+use native.Mathlib.Omega.{arith}
+use borrow.Author.Needs.{sfits-of}
+use lib.IntN.{ℤ, pos, negℤ, _-ℤ_, +ℤ-idl}
+use lib.Signed.{mag}
 use lib.Dec.{lit≤}
 use Rattle.format.specs.declared.Refusal.{Refusal}
 use Rattle.format.specs.declared.Refusal.the-variants.{ArchiveTooLong, InvalidSubtreePointer, UnalignedPointer, InvalidKind, ExceededMaximumSubtreeDepth, InvalidLength, EntriesLengthMismatch, HollowNode, KeysNotAscending, IteratorLengthMismatch, TooManyEntries, GivenKeysNotAscending, HeaderTooLong, OutputTooShort, IsizeOverflow, OffsetOverflow, InvalidAlignment, KeyFieldOverflow}
@@ -24,3 +32,17 @@ number-listed IsizeOverflow = (lit≤ tt, lit≤ tt)
 number-listed OffsetOverflow = (lit≤ tt, lit≤ tt)
 number-listed InvalidAlignment = (lit≤ tt, lit≤ tt)
 number-listed KeyFieldOverflow = (lit≤ tt, lit≤ tt)
+
+minus-mag : (n : ℕ) → n < 2 ^ 63 → mag (negℤ (pos n)) < 2 ^ 63
+minus-mag zero h = h
+minus-mag (suc n) h = omega arith
+
+module _ (n : ℕ) (h : n < 2 ^ 63) where
+  minus : pos 0 -ℤ toZ w64 n ≡ negℤ (pos n)
+  minus = ap (λ (z : ℤ). pos 0 -ℤ z) (toZ-pos w64 h) ∙ +ℤ-idl (negℤ (pos n))
+
+  pub minus-fits : SFits w64 (pos 0 -ℤ toZ w64 n)
+  minus-fits = subst (SFits w64) (sym minus) (sfits-of (minus-mag n h))
+
+  pub minus-is : toZ w64 (ofZ w64 (pos 0 -ℤ toZ w64 n)) ≡ negℤ (pos n)
+  minus-is = toZ-ofZ minus-fits ∙ minus

@@ -1,6 +1,8 @@
--- Answers as one number, and what lent numbers hold afterwards. Assumes nothing: these are definitions.
-use Prim.Native.Nat.{ℕ, zero, suc, _+_, _≤_, _<_}
-use mathlib.Core.Path.{_≡_}
+-- Answers as one signed number, and what lent numbers hold afterwards. Assumes nothing: these are definitions.
+use Prim.Native.Nat.{ℕ, zero, suc, _≤_}
+use mathlib.Core.Bool.{Bool, true, false}
+use lib.IntN.{ℤ, pos, negsuc, negℤ}
+use lib.Signed.{_≤ℤ_, _<ℤ_}
 use Rattle.format.specs.declared.Entry.{Entry}
 use Rattle.format.specs.declared.Bound.{Bound}
 use Rattle.format.specs.declared.Bound.the-variants.{Included, Excluded, Unbounded}
@@ -10,15 +12,15 @@ use Rattle.format.specs.Refusal.{Answer, gives, refuses}
 use Rattle.format.specs.Align.{Step}
 use Rattle.format.specs.Calls.{Walk, Matched}
 
--- An answer as one number: that of what is given, or 2^32 and the refusal's number.
-abbrev pub coded : {A : Type 0} → (A → ℕ) → Answer A → ℕ
-coded f (gives a) = f a
-coded f (refuses r) = 4294967296 + r
+-- An answer as one number: that of what is given, from 0 on, or minus the refusal's.
+abbrev pub coded : {A : Type 0} → (A → ℕ) → Answer A → ℤ
+coded f (gives a) = pos (f a)
+coded f (refuses r) = negℤ (pos r)
 
--- What the number r of a call tells: below 2^32 that something is given, else 2^32 and the number of one of the 18 refusals.
-abbrev pub Tells : {A : Type 0} → ℕ → Answer A → Type 0
-Tells r (gives a) = r < 4294967296
-Tells r (refuses n) = (r ≡ 4294967296 + n) × (1 ≤ n) × (n ≤ 18)
+-- What the number z of a call tells: from 0 on that something is given, below 0 that it is refused, by one of 1 to 18.
+abbrev pub Tells : {A : Type 0} → ℤ → Answer A → Type 0
+Tells z (gives a) = pos 0 ≤ℤ z
+Tells z (refuses r) = (z <ℤ pos 0) × (1 ≤ r) × (r ≤ 18)
 
 -- What a place that held x holds afterwards: a part of what is given, or x on a refusal.
 abbrev pub stored : {A B : Type 0} → (A → B) → Answer A → B → B
@@ -30,11 +32,20 @@ abbrev pub foundFlag : Found → ℕ
 foundFlag (found e) = 1
 foundFlag nothing = 0
 
--- How many bytes the value's part of the archive has: eight, or none where there is no entry or the archive is refused.
-abbrev pub partLength : Answer Found → ℕ
-partLength (gives (found e)) = 8
-partLength (gives nothing) = 0
-partLength (refuses r) = 0
+-- How many bytes the value's part of the archive has: eight, or none where no entry is found.
+abbrev pub partLength : Found → ℕ
+partLength (found e) = 8
+partLength nothing = 0
+
+-- The length that an answer tells: the number, or 0 where it is below 0.
+abbrev pub lengthTold : ℤ → ℕ
+lengthTold (pos n) = n
+lengthTold (negsuc n) = 0
+
+-- 1 for seen, and 0.
+abbrev pub seenFlag : Bool → ℕ
+seenFlag true = 1
+seenFlag false = 0
 
 -- What a place that held x holds after a lookup: a part of the entry, or x where there is none.
 abbrev pub storedFound : (Entry → ℕ) → Answer Found → ℕ → ℕ

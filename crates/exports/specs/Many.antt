@@ -27,13 +27,9 @@ unfoldable pub firstMany : (ℕ → Found) → List ℕ → List ℕ → ℕ →
 firstMany look ks vs zero = many vs 0
 firstMany look ks vs (suc n) = store (look (getD ks n 0)) n (firstMany look ks vs n)
 
--- The most keys that are looked up, so that the number found is below 2^32.
-abbrev pub mostKeys : ℕ
-mostKeys = 4294967295
-
--- How many keys are looked up: all that have a place, or the first of them.
+-- How many keys are looked up: all that have a place.
 abbrev pub sought : List ℕ → List ℕ → ℕ
-sought ks vs = min (min (length ks) (length vs)) mostKeys
+sought ks vs = min (length ks) (length vs)
 
 -- What all of them leave.
 abbrev pub allMany : (ℕ → Found) → List ℕ → List ℕ → Many

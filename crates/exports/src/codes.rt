@@ -3,22 +3,32 @@ use format::Bound;
 use format::CheckAnswer;
 use format::Refusal;
 ghost use mathlib.Core.Path.{_≡_};
-ghost use Prim.Native.Nat.{_+_};
-ghost use Rattle.format.specs.Refusal.{checkOf, number};
+ghost use Prim.Native.Nat.{ℕ, _<_, _^_};
+ghost use lib.IntN.{pos, negℤ};
+ghost use Rattle.format.specs.Refusal.{gives, checkOf, number};
 ghost use Rattle.exports.specs.Answers.{coded, boundOf};
 
-// A refusal's code.
-pub(crate) fn refused(why: Refusal) -> u64
-    ensures { λ r. ⌜ r ≡ 4294967296 + number why ⌝ }
+// What is given, as an answer.
+pub(crate) fn given(n: usize) -> i64
+    requires { ⌜ n < 2 ^ 63 ⌝ }
+    ensures { λ r. ⌜ r ≡ pos n ⌝ }
 {
-    0x1_0000_0000 + fieldmap::refusal_number(why)
+    n as i64
 }
 
-pub(crate) fn counted(answer: CheckAnswer) -> u64
+// A refusal, as an answer: minus its number.
+pub(crate) fn refused(why: Refusal) -> i64
+    ensures { λ r. ⌜ r ≡ negℤ (pos (number why)) ⌝ }
+{
+    0 - fieldmap::refusal_number(why) as i64
+}
+
+pub(crate) fn counted(answer: CheckAnswer) -> i64
+    requires { ⌜ ((n : ℕ) → checkOf answer ≡ gives n → n < 2 ^ 63) ⌝ }
     ensures { λ r. ⌜ r ≡ coded (λ n. n) (checkOf answer) ⌝ }
 {
     match answer {
-        CheckAnswer::Accepted(count) => count as u64,
+        CheckAnswer::Accepted(count) => given(count),
         CheckAnswer::Refused(why) => refused(why),
     }
 }

@@ -1,9 +1,10 @@
-// Key packing. x and y are signed numbers of 8 bits.
+// Keys and values. x and y are signed numbers of 8 bits.
 use crate::codes::refused;
 use perimetry::key::Packed;
 ghost use mathlib.Core.Path.{_≡_};
-ghost use Rattle.format.specs.Key.{packKey, fieldsOf};
-ghost use Rattle.exports.specs.Answers.{coded, Tells, stored};
+ghost use Rattle.format.specs.Refusal.{gives};
+ghost use Rattle.format.specs.Key.{packKey, fieldsOf, seen, threshold};
+ghost use Rattle.exports.specs.Answers.{coded, Tells, stored, seenFlag};
 
 // Stores the key of an examination's fields and answers 0.
 #[no_mangle]
@@ -14,7 +15,7 @@ pub extern "C" fn fieldmap_pack(
     y: i8,
     presentation: u32,
     key: &mut u64,
-) -> u64
+) -> i64
     ensures answer { λ r. ⌜ r ≡ coded (λ k. 0) (packKey examination eye x y presentation) ⌝ }
     ensures told { λ r. ⌜ Tells r (packKey examination eye x y presentation) ⌝ }
     ensures key { λ r. ⌜ now (key .exit) ≡ stored (λ k. k) (packKey examination eye x y presentation) (now (key .entry)) ⌝ }
@@ -28,7 +29,7 @@ pub extern "C" fn fieldmap_pack(
     }
 }
 
-// Stores the fields of a key. Every key has them, so there is no answer.
+// Stores the fields of a key and answers 0. Every key has them.
 #[no_mangle]
 pub extern "C" fn fieldmap_unpack(
     key: u64,
@@ -37,7 +38,8 @@ pub extern "C" fn fieldmap_unpack(
     x: &mut i8,
     y: &mut i8,
     presentation: &mut u32,
-)
+) -> i64
+    ensures answer { λ r. ⌜ r ≡ coded (λ f. 0) (gives (fieldsOf key)) ⌝ }
     ensures examination { λ _. ⌜ now (examination .exit) ≡ fieldsOf key .examination ⌝ }
     ensures eye { λ _. ⌜ now (eye .exit) ≡ fieldsOf key .eye ⌝ }
     ensures x { λ _. ⌜ now (x .exit) ≡ fieldsOf key .x ⌝ }
@@ -52,4 +54,24 @@ pub extern "C" fn fieldmap_unpack(
     *x = degrees_x;
     *y = degrees_y;
     *presentation = f.presentation;
+    0
+}
+
+// Whether the stimulus of a value was seen: 1, or 0.
+#[no_mangle]
+pub extern "C" fn fieldmap_seen(value: u64) -> i64
+    ensures { λ r. ⌜ r ≡ coded seenFlag (gives (seen value)) ⌝ }
+{
+    if fieldmap::seen(value) {
+        return 1;
+    }
+    0
+}
+
+// The threshold of a value in tenths of a decibel.
+#[no_mangle]
+pub extern "C" fn fieldmap_threshold(value: u64) -> i64
+    ensures { λ r. ⌜ r ≡ coded (λ n. n) (gives (threshold value)) ⌝ }
+{
+    fieldmap::threshold(value) as i64
 }

@@ -1,6 +1,5 @@
-// The calls for programs in C and Rust. A slice passes as a pointer and a length, a lent number as a pointer. A call answers a number below 2^32,
-// or on a refusal 2^32 plus the refusal's number; but `fieldmap_lookup_bytes` answers a length on a refusal too, and `fieldmap_unpack` nothing. What
-// the answer has no room for is stored through lent numbers. A refused call leaves what was lent as it was.
+// The calls for programs in C and Rust. A slice passes as a pointer and a length, a lent number as a pointer. A call answers a number from 0 on, or on a
+// refusal minus the refusal's number. What the answer has no room for is stored through lent numbers. A refused call leaves what was lent as it was.
 mod codes;
 pub mod key;
 pub mod many;

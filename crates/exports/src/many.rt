@@ -1,4 +1,5 @@
 // Many lookups after one check.
+use crate::codes::given;
 use crate::codes::refused;
 use btree::node::pointed;
 use fields::least::least;
@@ -38,13 +39,13 @@ fn look_up_at(
     }
 }
 
-// Looks up every key that has a place, but none past the first 4,294,967,295, from the root on. The number of keys found.
+// Looks up every key that has a place, from the root on. The number of keys found.
 fn look_up_all(archive: &[u8], root: Position, keys: &[u64], values: &mut [u64]) -> usize
     requires { ⌜ Node layout32 standard (now archive) (root .0) ⌝ }
     ensures { λ r. ⌜ many (now (values .exit)) r
         ≡ allMany (λ k. lookupAt layout32 (now (archive .entry)) k (nested standard) (root .0)) (now (keys .entry)) (now (values .entry)) ⌝ }
 {
-    let n = least(least(keys.len(), values.len()), 4_294_967_295);
+    let n = least(keys.len(), values.len());
     let mut found = 0;
     let mut i = 0;
     while i < n {
@@ -54,10 +55,10 @@ fn look_up_all(archive: &[u8], root: Position, keys: &[u64], values: &mut [u64])
     found
 }
 
-// Looks up keys after one check and stores each value that is found at the place of its key. Keys beyond the values' places, or past the first
-// 4,294,967,295, are not looked up. The number of keys found.
+// Looks up keys after one check and stores each value that is found at the place of its key. Keys beyond the values' places are not looked up. The number
+// of keys found.
 #[no_mangle]
-pub extern "C" fn fieldmap_lookup_many(archive: &[u8], keys: &[u64], values: &mut [u64]) -> u64
+pub extern "C" fn fieldmap_lookup_many(archive: &[u8], keys: &[u64], values: &mut [u64]) -> i64
     ensures answer { λ r. ⌜ r ≡ coded (λ n. n) (manyCall layout32 standard (now (archive .entry)) (now (keys .entry)) (now (values .entry))) ⌝ }
     ensures told { λ r. ⌜ Tells r (manyCall layout32 standard (now (archive .entry)) (now (keys .entry)) (now (values .entry))) ⌝ }
     ensures values { λ r. ⌜ now (values .exit) ≡ manyValues layout32 standard (now (archive .entry)) (now (keys .entry)) (now (values .entry)) ⌝ }
@@ -69,7 +70,7 @@ pub extern "C" fn fieldmap_lookup_many(archive: &[u8], keys: &[u64], values: &mu
                 return 0;
             }
             let record = Position(archive.len() - Layout::RECORD);
-            look_up_all(archive, pointed(archive, record), keys, values) as u64
+            given(look_up_all(archive, pointed(archive, record), keys, values))
         }
     }
 }

@@ -10,7 +10,7 @@ ghost use Rattle.exports.specs.Answers.{coded, Tells, stored, stepNext, 
 
 // The signed difference of two positions.
 #[no_mangle]
-pub extern "C" fn fieldmap_signed_offset(from: u64, to: u64, offset: &mut i64) -> u64
+pub extern "C" fn fieldmap_signed_offset(from: u64, to: u64, offset: &mut i64) -> i64
     ensures answer { λ r. ⌜ r ≡ coded (λ z. 0) (signedOffset from to) ⌝ }
     ensures told { λ r. ⌜ Tells r (signedOffset from to) ⌝ }
     ensures offset { λ r. ⌜ now (offset .exit) ≡ stored (λ z. z) (signedOffset from to) (now (offset .entry)) ⌝ }
@@ -26,7 +26,7 @@ pub extern "C" fn fieldmap_signed_offset(from: u64, to: u64, offset: &mut i64) -
 
 // The 32-bit offset from a field to a position.
 #[no_mangle]
-pub extern "C" fn fieldmap_offset32(from: u64, to: u64, offset: &mut i32) -> u64
+pub extern "C" fn fieldmap_offset32(from: u64, to: u64, offset: &mut i32) -> i64
     ensures answer { λ r. ⌜ r ≡ coded (λ z. 0) (storedOffset 31 from to) ⌝ }
     ensures told { λ r. ⌜ Tells r (storedOffset 31 from to) ⌝ }
     ensures offset { λ r. ⌜ now (offset .exit) ≡ stored (λ z. z) (storedOffset 31 from to) (now (offset .entry)) ⌝ }
@@ -42,7 +42,7 @@ pub extern "C" fn fieldmap_offset32(from: u64, to: u64, offset: &mut i32) -> u64
 
 // The offset that marks an absent pointer at a position.
 #[no_mangle]
-pub extern "C" fn fieldmap_absent_offset(at: u64, offset: &mut i32) -> u64
+pub extern "C" fn fieldmap_absent_offset(at: u64, offset: &mut i32) -> i64
     ensures answer { λ r. ⌜ r ≡ coded (λ z. 0) (absentOffset 31 at) ⌝ }
     ensures told { λ r. ⌜ Tells r (absentOffset 31 at) ⌝ }
     ensures offset { λ r. ⌜ now (offset .exit) ≡ stored (λ z. z) (absentOffset 31 at) (now (offset .entry)) ⌝ }
@@ -58,7 +58,7 @@ pub extern "C" fn fieldmap_absent_offset(at: u64, offset: &mut i32) -> u64
 
 // The next position on an alignment, and the zeros before it.
 #[no_mangle]
-pub extern "C" fn fieldmap_align(pos: u64, alignment: u64, next: &mut u64, zeros: &mut u64) -> u64
+pub extern "C" fn fieldmap_align(pos: u64, alignment: u64, next: &mut u64, zeros: &mut u64) -> i64
     ensures answer { λ r. ⌜ r ≡ coded (λ s. 0) (alignStep pos alignment) ⌝ }
     ensures told { λ r. ⌜ Tells r (alignStep pos alignment) ⌝ }
     ensures next { λ r. ⌜ now (next .exit) ≡ stored stepNext (alignStep pos alignment) (now (next .entry)) ⌝ }

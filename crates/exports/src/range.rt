@@ -1,5 +1,6 @@
 // Ranges of keys of a certified archive.
 use crate::codes::bound;
+use crate::codes::given;
 use crate::codes::refused;
 use fieldmap::RangeAnswer;
 ghost use mathlib.Core.Path.{_≡_};
@@ -18,7 +19,7 @@ pub extern "C" fn fieldmap_range(
     keys: &mut [u64],
     values: &mut [u64],
     matching: &mut u64,
-) -> u64
+) -> i64
     ensures answer { λ r. ⌜ r ≡ coded rangeWritten
         (rangeCall layout32 standard (now (archive .entry)) (boundOf «lower_kind» lower) (boundOf «upper_kind» upper) (now (keys .entry)) (now (values .entry))) ⌝ }
     ensures told { λ r. ⌜ Tells r (rangeCall layout32 standard (now (archive .entry)) (boundOf «lower_kind» lower) (boundOf «upper_kind» upper)
@@ -37,12 +38,14 @@ pub extern "C" fn fieldmap_range(
         RangeAnswer::Refused(why) => refused(why),
         RangeAnswer::Matched(written, all) => {
             *matching = all as u64;
-            written as u64
+            given(written)
         }
     }
 }
 
-// The range of a column query: one eye of one examination, x from a to b. It writes, stores and answers as a range does.
+// The range of a column query, for one eye of one examination: where a and b are both from 0 on or both below 0, the entries with x from a to b; where a
+// is below 0 and b is not, none; where b is below 0 and a is not, those with x from a on and those with x up to b. It writes, stores and answers as a
+// range does.
 #[no_mangle]
 pub extern "C" fn fieldmap_column(
     archive: &[u8],
@@ -53,7 +56,7 @@ pub extern "C" fn fieldmap_column(
     keys: &mut [u64],
     values: &mut [u64],
     matching: &mut u64,
-) -> u64
+) -> i64
     ensures answer { λ r. ⌜ r ≡ coded rangeWritten
         (columnCall layout32 standard (now (archive .entry)) examination eye a b (now (keys .entry)) (now (values .entry))) ⌝ }
     ensures told { λ r. ⌜ Tells r (columnCall layout32 standard (now (archive .entry)) examination eye a b (now (keys .entry)) (now (values .entry))) ⌝ }
@@ -69,7 +72,7 @@ pub extern "C" fn fieldmap_column(
         RangeAnswer::Refused(why) => refused(why),
         RangeAnswer::Matched(written, all) => {
             *matching = all as u64;
-            written as u64
+            given(written)
         }
     }
 }

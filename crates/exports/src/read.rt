@@ -1,5 +1,6 @@
 // The readers of an archive: check, certify, lookup and walk.
 use crate::codes::counted;
+use crate::codes::given;
 use crate::codes::refused;
 use fieldmap::LookupAnswer;
 use fieldmap::WalkAnswer;
@@ -9,11 +10,11 @@ ghost use Rattle.format.specs.Layout.{layout32, standard};
 ghost use Rattle.format.specs.Check.{counted, checkArchive};
 ghost use Rattle.format.specs.Certify.{certify};
 ghost use Rattle.format.specs.Calls.{lookupCall, bytesCall, walkCall, walkKeys, walkValues};
-ghost use Rattle.exports.specs.Answers.{coded, Tells, stored, foundFlag, partLength, storedFound, entryValue, entryPosition, walkWritten, walkCount};
+ghost use Rattle.exports.specs.Answers.{coded, Tells, stored, foundFlag, partLength, lengthTold, storedFound, entryValue, entryPosition, walkWritten, walkCount};
 
 // The recorded count, or the first fault of 1 to 7.
 #[no_mangle]
-pub extern "C" fn fieldmap_check(archive: &[u8]) -> u64
+pub extern "C" fn fieldmap_check(archive: &[u8]) -> i64
     ensures { λ r. ⌜ r ≡ coded (λ n. n) (counted (checkArchive layout32 standard (now (archive .entry)))) ⌝ }
     ensures told { λ r. ⌜ Tells r (counted (checkArchive layout32 standard (now (archive .entry)))) ⌝ }
 {
@@ -22,21 +23,21 @@ pub extern "C" fn fieldmap_check(archive: &[u8]) -> u64
 
 // The recorded count, or the first fault of 1 to 9.
 #[no_mangle]
-pub extern "C" fn fieldmap_certify(archive: &[u8]) -> u64
+pub extern "C" fn fieldmap_certify(archive: &[u8]) -> i64
     ensures { λ r. ⌜ r ≡ coded (λ n. n) (counted (certify layout32 standard (now (archive .entry)))) ⌝ }
     ensures told { λ r. ⌜ Tells r (counted (certify layout32 standard (now (archive .entry)))) ⌝ }
 {
     counted(fieldmap::certify(archive))
 }
 
-// Stores the value of a key and the position of the value's first byte and answers 1, or answers 0 where no entry has that key.
+// Stores the value of the entry that a lookup finds and the position of the value's first byte and answers 1, or answers 0 where it finds none.
 #[no_mangle]
 pub extern "C" fn fieldmap_lookup(
     archive: &[u8],
     key: u64,
     value: &mut u64,
     position: &mut u64,
-) -> u64
+) -> i64
     ensures answer { λ r. ⌜ r ≡ coded foundFlag (lookupCall layout32 standard (now (archive .entry)) key) ⌝ }
     ensures told { λ r. ⌜ Tells r (lookupCall layout32 standard (now (archive .entry)) key) ⌝ }
     ensures value { λ r. ⌜ now (value .exit) ≡ storedFound entryValue (lookupCall layout32 standard (now (archive .entry)) key) (now (value .entry)) ⌝ }
@@ -54,17 +55,19 @@ pub extern "C" fn fieldmap_lookup(
     }
 }
 
-// The eight bytes of a key's value as a part of the archive: stores where the part starts and answers its length, 8. The part is empty where no
-// entry has that key or the archive is refused: the answer is 0, and the start stays.
+// The eight bytes of the value that a lookup finds as a part of the archive: stores where the part starts and answers its length, 8. Where it finds none
+// the part is empty: the answer is 0, and the start stays.
 #[no_mangle]
-pub extern "C" fn fieldmap_lookup_bytes(archive: &[u8], key: u64, start: &mut u64) -> u64
-    ensures answer { λ r. ⌜ r ≡ partLength (lookupCall layout32 standard (now (archive .entry)) key) ⌝ }
+pub extern "C" fn fieldmap_lookup_bytes(archive: &[u8], key: u64, start: &mut u64) -> i64
+    ensures answer { λ r. ⌜ r ≡ coded partLength (lookupCall layout32 standard (now (archive .entry)) key) ⌝ }
+    ensures told { λ r. ⌜ Tells r (lookupCall layout32 standard (now (archive .entry)) key) ⌝ }
     ensures start { λ r. ⌜ now (start .exit)
         ≡ storedFound entryPosition (lookupCall layout32 standard (now (archive .entry)) key) (now (start .entry)) ⌝ }
-    ensures part { λ r. ⌜ take r (drop (now (start .exit)) (now (archive .entry))) ≡ bytesCall layout32 standard (now (archive .entry)) key ⌝ }
+    ensures part { λ r. ⌜ take (lengthTold r) (drop (now (start .exit)) (now (archive .entry)))
+        ≡ bytesCall layout32 standard (now (archive .entry)) key ⌝ }
 {
     match fieldmap::lookup(archive, key) {
-        LookupAnswer::Refused(_) => 0,
+        LookupAnswer::Refused(fault) => refused(fault),
         LookupAnswer::Nothing => 0,
         LookupAnswer::Entry(e) => {
             *start = e.position.0 as u64;
@@ -80,7 +83,7 @@ pub extern "C" fn fieldmap_walk(
     keys: &mut [u64],
     values: &mut [u64],
     count: &mut u64,
-) -> u64
+) -> i64
     ensures answer { λ r. ⌜ r
         ≡ coded walkWritten (walkCall layout32 standard (now (archive .entry)) (now (keys .entry)) (now (values .entry))) ⌝ }
     ensures told { λ r. ⌜ Tells r (walkCall layout32 standard (now (archive .entry)) (now (keys .entry)) (now (values .entry))) ⌝ }
@@ -93,7 +96,7 @@ pub extern "C" fn fieldmap_walk(
         WalkAnswer::Refused(why) => refused(why),
         WalkAnswer::Walked(written, all) => {
             *count = all as u64;
-            written as u64
+            given(written)
         }
     }
 }

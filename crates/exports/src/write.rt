@@ -1,21 +1,34 @@
 // The builder.
+use crate::codes::given;
 use crate::codes::refused;
 use builder::build::BuildAnswer;
 ghost use mathlib.Core.Path.{_≡_};
 ghost use lib.ListN.{length};
 ghost use Rattle.format.specs.Layout.{layout32};
-ghost use Rattle.format.specs.Build.{build, outAfter};
+ghost use Rattle.format.specs.Build.{build, buildLength, outAfter};
 ghost use Rattle.exports.specs.Answers.{coded, Tells};
 
 // Writes the given entries as an archive behind the first `header` bytes of the output, which stay. The archive's end.
 #[no_mangle]
-pub extern "C" fn fieldmap_build(out: &mut [u8], header: usize, keys: &[u64], values: &[u64]) -> u64
+pub extern "C" fn fieldmap_build(out: &mut [u8], header: usize, keys: &[u64], values: &[u64]) -> i64
     ensures answer { λ r. ⌜ r ≡ coded (λ n. n) (build layout32 (now (keys .entry)) (now (values .entry)) header (length (now (out .entry)))) ⌝ }
     ensures told { λ r. ⌜ Tells r (build layout32 (now (keys .entry)) (now (values .entry)) header (length (now (out .entry)))) ⌝ }
     ensures bytes { λ r. ⌜ now (out .exit) ≡ outAfter layout32 (now (keys .entry)) (now (values .entry)) header (now (out .entry)) ⌝ }
 {
     match fieldmap::build(out, header, keys, values) {
-        BuildAnswer::Built(end) => end as u64,
+        BuildAnswer::Built(end) => given(end),
+        BuildAnswer::Refused(why) => refused(why),
+    }
+}
+
+// Where a build of so many entries behind a header will end.
+#[no_mangle]
+pub extern "C" fn fieldmap_build_length(entries: usize, header: usize) -> i64
+    ensures answer { λ r. ⌜ r ≡ coded (λ n. n) (buildLength layout32 entries header) ⌝ }
+    ensures told { λ r. ⌜ Tells r (buildLength layout32 entries header) ⌝ }
+{
+    match fieldmap::build_length(entries, header) {
+        BuildAnswer::Built(end) => given(end),
         BuildAnswer::Refused(why) => refused(why),
     }
 }

@@ -29,17 +29,18 @@ use Rattle.format.specs.Range.{crosses, range}
 use Rattle.format.specs.RangeIter.{new, Yields}
 use Rattle.format.specs.Written.{written, keysAfter, valuesAfter}
 use Rattle.format.specs.Tree.{Pair}
-use Rattle.format.specs.Build.{treeOf, pairs, build, archive, outBy, outAfter}
+use Rattle.format.specs.Build.{treeOf, pairs, build, buildLength, archive, outBy, outAfter}
 use Rattle.format.specs.Serialize.{serialize, streamed}
 use Rattle.format.specs.Calls.{lookupCall, bytesCall, placeCall, walkCall, walkKeys, walkValues, rangeCall, rangeKeys, rangeValues, columnCall, columnKeys, columnValues}
 use Rattle.format.specs.Laws.Certify.Find.{In, find-found, find-nothing, find-one}
-use Rattle.format.specs.Laws.Calls.Refusals.{check-by, certify-by, lookup-refused, walk-refused, range-refused, column-refused-by, build-by, signed-by, stored-by, absent-by, align-by, pack-by}
+use Rattle.format.specs.Laws.Calls.Refusals.{check-by, certify-by, lookup-refused, walk-refused, range-refused, column-refused-by, build-by, length-by, signed-by, stored-by, absent-by, align-by, pack-by}
 use Rattle.format.specs.Laws.Check.Archive.{field-lands, field-apart, field-once, list-length}
 use Rattle.format.specs.Laws.Certify.Certified.{lookup-certified}
 use Rattle.format.specs.Laws.Calls.Opened.{certify-refuses, lookup-refuses, bytes-refuses, place-refuses, walk-refuses, walk-keys-refuses, walk-values-refuses, range-refuses, range-keys-refuses, range-values-refuses, is-recorded, is-archive, lookup-accepted, bytes-accepted, place-accepted, walk-accepted, walk-keys-accepted, walk-values-accepted, certified-exactly, is-certified, certified-accepts, range-certified, range-keys-certified, range-values-certified, column-uncertified}
 use Rattle.format.specs.Laws.Range.Iter.{range-yields}
 use Rattle.format.specs.Laws.Numbers.Key.{pack-unpack}
 use Rattle.format.specs.Laws.Build.Built32.{Taken, taken, taken-gives, build-certifies, build-output, build-archive, Offsets, build-emplaces}
+use Rattle.format.specs.Laws.Build.Lengths.{length-given}
 use Rattle.format.specs.Laws.Build.Streaming.{never-panics, streamed-archive}
 
 -- ---- demand 1: "gets an answer or a listed refusal .. and a refusal changes no lent buffer"
@@ -133,6 +134,13 @@ demand-1-build ks vs h room = build-by layout32 ks vs h room
 pub demand-1-output : (ks vs : List ℕ) (h : ℕ) (out : List ℕ) (r : ℕ) → build layout32 ks vs h (length out) ≡ refuses r → outAfter layout32 ks vs h out ≡ out
 unfolding outAfter
 demand-1-output ks vs h out r e = ap (λ (a : Answer ℕ). outBy layout32 a h (pairs ks vs) out) e
+
+-- The length for so many entries is refused only by 11 and 13, and where a build gives an end it is that length.
+pub demand-1-length : (n h : ℕ) → RefusesBy 11 13 (buildLength layout32 n h)
+demand-1-length n h = length-by layout32 n h
+
+pub demand-3-length : (ks vs : List ℕ) (h room n : ℕ) → build layout32 ks vs h room ≡ gives n → buildLength layout32 (length ks) h ≡ gives n
+demand-3-length ks vs h room n e = length-given layout32 ks vs h room n e
 
 -- The parts and the packing are lent nothing. The absent mark is asked for a position, which has 64 bits.
 pub demand-1-signed-offset : (from to : ℕ) → RefusesBy 15 15 (signedOffset from to)

@@ -1,12 +1,21 @@
 -- `exports::codes::refused` meets its contract. Assumes nothing.
+use Prim.Native.Nat.{_<_, _^_}
+use mathlib.Core.Path.{_∙_, ap}
 use native.Mathlib.Omega.{arith}
-use borrow.Author.Needs.{needs}
-use Rattle.exports.proofs.Small.{number-listed}
+use borrow.Author.Needs.{needs, sfits-of}
+use lib.IntN.{pos, negℤ}
+use Rattle.exports.proofs.Small.{number-listed, minus-fits, minus-is}
 use Rattle.exports.proofs.codes.refused.Statement.{statement}
 use Rattle.exports.proofs.codes.refused.Tie as tie
 
-add-result : tie.Need-add-result
-add-result c = record { fits = omega (arith, number-listed (c .before .args .why) .1, c .refusal-number .ensures) }
+small : (c : tie.After-refusal-number) → c .refusal-number .result < 2 ^ 63
+small c = omega (arith, number-listed (c .before .args .why) .1, c .refusal-number .ensures)
+
+sub-result : tie.Need-sub-result
+sub-result c = minus-fits _ (small c)
+
+returns : tie.Need-returns
+returns c = minus-is _ (small c) ∙ ap (λ n. negℤ (pos n)) (c .refusal-number .ensures)
 
 pub refused-spec : {M : Type 1} → statement M
-refused-spec = tie.close (tie.spec (search needs) add-result (search needs))
+refused-spec = tie.close (tie.spec (search needs) (λ c. sfits-of (small c)) sub-result returns)

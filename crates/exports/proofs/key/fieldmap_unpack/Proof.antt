@@ -1,15 +1,21 @@
 -- `exports::key::fieldmap_unpack` meets its contract. Assumes nothing.
 use mir.Syntax.{w8}
 use mir.Facts.{toZ-ofZ}
-use mathlib.Core.Path.{_∙_, ap}
+use mathlib.Core.Path.{refl, _∙_, ap}
 use borrow.Author.Needs.{needs, sfits-of}
 use Rattle.format.specs.Key.{KeyFields}
 use Rattle.exports.proofs.key.fieldmap_unpack.Statement.{statement}
 use Rattle.exports.proofs.key.fieldmap_unpack.Tie as tie
 
 returns : tie.Need-returns
-returns c = let e = c .before .before .unpack .ensures in
-    (ap (λ (f : KeyFields). f .examination) e, (ap (λ (f : KeyFields). f .eye) e, (toZ-ofZ {w = w8} (sfits-of (c .before .struct-told .given .1 .1 .0 .1)) ∙ ap (λ (f : KeyFields). f .x) e, (toZ-ofZ {w = w8} (sfits-of (c .struct-told2 .given .1 .1 .1 .0 .1)) ∙ ap (λ (f : KeyFields). f .y) e, ap (λ (f : KeyFields). f .presentation) e))))
+returns c =
+    let e = c .before .before .unpack .ensures in
+    let x = toZ-ofZ {w = w8} (sfits-of (c .before .struct-told .given .1 .1 .0 .1)) in
+    let y = toZ-ofZ {w = w8} (sfits-of (c .struct-told2 .given .1 .1 .1 .0 .1)) in
+    (refl,
+    (ap (λ (f : KeyFields). f .examination) e,
+    (ap (λ (f : KeyFields). f .eye) e,
+    (x ∙ ap (λ (f : KeyFields). f .x) e, (y ∙ ap (λ (f : KeyFields). f .y) e, ap (λ (f : KeyFields). f .presentation) e)))))
 
 pub fieldmap-unpack-spec : {M : Type 1} → statement M
 fieldmap-unpack-spec = tie.close (tie.spec (λ c κs. search needs) returns)

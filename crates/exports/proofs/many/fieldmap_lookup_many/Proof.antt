@@ -1,12 +1,15 @@
 -- `exports::many::fieldmap_lookup_many` meets its contract. Assumes nothing.
-use Prim.Native.Nat.{ℕ}
-use mathlib.Core.Path.{_≡_, sym, ap, _∙_}
+use mir.Syntax.{w64}
+use mir.Facts.{toZ-ofZ}
+use Prim.Native.Nat.{ℕ, _*_, _<_, _^_}
+use mathlib.Core.Path.{_≡_, refl, sym, ap, _∙_}
 use native.Mathlib.Omega.{arith}
 use Rattle.format.specs.Layout.{layout32, standard}
 use Rattle.format.specs.Check.{counted, checkArchive}
 use Rattle.format.specs.Refusal.{number, gives, refuses, checkOf}
 use Rattle.format.specs.Laws.Calls.Opened.{room-for, root-back, node}
-use borrow.Author.Needs.{needs}
+use lib.ListN.{length}
+use borrow.Author.Needs.{needs, sfits-of}
 use Rattle.exports.proofs.Given.{code-given, code-refused, told-given, told-refused}
 use Rattle.exports.proofs.Looks.{found-most, many-refuses, many-values-refuses, many-none, many-values-none, many-gives, many-values-gives}
 use Rattle.exports.proofs.many.fieldmap_lookup_many.Statement.{statement}
@@ -35,7 +38,7 @@ returns : tie.Need-returns
 returns c =
     let o = opened (c .before .before) in
     let e = many-none layout32 standard _ _ o _ _ (c .if1 .taken) in
-    (code-given (λ (n : ℕ). n) e, (told-given e (omega arith), sym (many-values-none layout32 standard _ _ o _ _ (c .if1 .taken))))
+    (code-given (λ (n : ℕ). n) e refl, (told-given e refl, sym (many-values-none layout32 standard _ _ o _ _ (c .if1 .taken))))
 
 sub-t11 : tie.Need-sub-t11
 sub-t11 c = omega (arith, room-for layout32 standard _ _ (opened (c .before .before)))
@@ -46,11 +49,19 @@ pointed-requires c κs = (omega (arith, room-for layout32 standard _ _ (opened (
 look-up-all-requires : tie.Need-look-up-all-requires
 look-up-all-requires c κs = node layout32 standard _ _ (opened (c .before .before .before .before)) (c .before .before .if1 .left) _ (c .before .pointed .ensures)
 
+-- A list of numbers takes less than 2^63 bytes, so there are fewer keys.
+given-requires : tie.Need-given-requires
+given-requires c κs =
+    let call : tie.After-look-up-all = search in
+    let start : tie.Start = search in
+    let room : length (start .args .keys .now) * 8 < 2 ^ 63 = search in
+    omega (arith, room, found-most _ _ _ _ _ _ (call .look-up-all .ensures))
+
 returns-2 : tie.Need-returns-2
 returns-2 c =
     let o = shut (c .before .before) in
     let e = many-refuses layout32 standard _ _ o _ _ in
-    let r = c .refused .ensures in
+    let r = toZ-ofZ {w = w64} (sfits-of (c .refused .ok)) ∙ c .refused .ensures in
     (code-refused (λ (n : ℕ). n) e r, (told-refused (c .before .before .why .given .0 .0) e r, sym (many-values-refuses layout32 standard _ _ o _ _)))
 
 same-length : tie.Need-same-length
@@ -59,12 +70,15 @@ same-length c = search needs
 returns-3 : tie.Need-returns-3
 returns-3 c =
     let k : tie.After-pointed = search in
+    let call : tie.After-look-up-all = search in
+    let last : tie.After-given = search in
     let o = opened (k .before .before .before) in
     let some = k .before .if1 .left in
-    let w = c .before .before .look-up-all .ensures in
+    let w = call .look-up-all .ensures in
     let e = many-gives layout32 standard _ _ o _ _ some _ (k .pointed .ensures) _ _ w in
     let v = many-values-gives layout32 standard _ _ o _ _ some _ (k .pointed .ensures) _ _ w in
-    (code-given (λ (n : ℕ). n) e, (told-given e (omega (arith, found-most _ _ _ _ _ _ w)), sym v))
+    let r = toZ-ofZ {w = w64} (sfits-of (last .given .ok)) ∙ last .given .ensures in
+    (code-given (λ (n : ℕ). n) e r, (told-given e r, sym v))
 
 pub fieldmap-lookup-many-spec : {M : Type 1} → statement M
 fieldmap-lookup-many-spec =
@@ -78,6 +92,7 @@ fieldmap-lookup-many-spec =
     sub-t11
     pointed-requires
     look-up-all-requires
+    given-requires
     returns-2
     same-length
     returns-3)

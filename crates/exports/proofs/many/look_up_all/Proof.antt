@@ -22,9 +22,6 @@ abbrev μ-loop : tie.MeasureT-loop
 least-requires : tie.Need-least-requires Inv-loop μ-loop
 least-requires c κs = search needs
 
-least-requires-2 : tie.Need-least-requires-2 Inv-loop μ-loop
-least-requires-2 c κs = search needs
-
 loop-holds : tie.Need-loop-holds Inv-loop μ-loop
 loop-holds c = (search needs, search needs, first-none _ _ _)
 
@@ -41,7 +38,10 @@ loop-less : tie.Need-loop-less Inv-loop μ-loop
 loop-less c = search needs
 
 loop-again : tie.Need-loop-again Inv-loop μ-loop
-loop-again c = (search needs, search needs, first-more _ _ _ _ _ _ (c .before .before .before .before .before .loop .inv .2) _ _ (c .before .before .look-up-at .ensures))
+loop-again c =
+    let head : tie.At-loop Inv-loop μ-loop = search in
+    let step : tie.After-look-up-at Inv-loop μ-loop = search in
+    (search needs, search needs, first-more _ _ _ _ _ _ (head .loop .inv .2) _ _ (step .look-up-at .ensures))
 
 same-length : tie.Need-same-length Inv-loop μ-loop
 same-length c = search needs
@@ -49,8 +49,7 @@ same-length c = search needs
 returns : tie.Need-returns Inv-loop μ-loop
 returns c =
     let head = c .before in
-    let limit = head .before in
-    first-all _ _ _ _ _ _ (head .loop .inv .2) _ _ (limit .before .least .ensures) (limit .least2 .ensures) (head .loop .inv .0) (c .loop-test .left)
+    first-all _ _ _ _ _ _ (head .loop .inv .2) _ (head .before .least .ensures) (head .loop .inv .0) (c .loop-test .left)
 
 pub look-up-all-spec : {M : Type 1} → statement M
 look-up-all-spec =
@@ -59,7 +58,6 @@ look-up-all-spec =
     Inv-loop
     μ-loop
     least-requires
-    least-requires-2
     loop-holds
     look-up-at-requires
     add-i

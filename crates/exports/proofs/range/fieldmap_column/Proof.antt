@@ -1,7 +1,9 @@
 -- `exports::range::fieldmap_column` meets its contract. Assumes nothing.
+use mir.Syntax.{w64}
 use mir.Facts.{toZ-ofZ}
 use mathlib.Core.Path.{_∙_, sym, ap}
-use borrow.Author.Needs.{needs}
+use native.Mathlib.Omega.{arith}
+use borrow.Author.Needs.{needs, sfits-of}
 use Rattle.format.specs.Layout.{layout32, standard}
 use Rattle.format.specs.Bytes.{AllBytes}
 use Rattle.format.specs.Laws.Calls.Numbers.{column-fits}
@@ -14,25 +16,33 @@ use Rattle.exports.proofs.range.fieldmap_column.Tie as tie
 bytes : (k : tie.After-shared-slice-known) → AllBytes (k .before .args .archive .now)
 bytes k i = k .shared-slice-known .given i .fits
 
+given-requires : tie.Need-given-requires
+given-requires c κs =
+    let call : tie.After-column = search in
+    let told : tie.After-written = search in
+    let e = sym (call .column .ensures .0) ∙ ap rangeOf (told .written .given .1) in
+    omega (arith, column-fits layout32 standard _ (bytes (search)) _ _ _ _ _ _ _ e)
+
 returns : tie.Need-returns
 returns c =
     let start : tie.Start = search in
     let call : tie.After-column = search in
     let p = call .column .ensures in
     let e = sym (p .0) ∙ ap rangeOf (c .before .before .why .given .1) in
-    let r = c .refused .ensures in
+    let r = toZ-ofZ {w = w64} (sfits-of (c .refused .ok)) ∙ c .refused .ensures in
     rw (sym (toZ-ofZ (start .fits .a)), sym (toZ-ofZ (start .fits .b)))
     (code-refused rangeWritten e r, (told-refused (c .before .before .why .given .0 .0) e r, (p .1 .0, (p .1 .1, store-refused rangeMatching _ e))))
 
 returns-2 : tie.Need-returns-2
 returns-2 c =
+    let told : tie.After-written = search in
     let start : tie.Start = search in
     let call : tie.After-column = search in
     let p = call .column .ensures in
-    let e = sym (p .0) ∙ ap rangeOf (c .before .written .given .1) in
-    let l = column-fits layout32 standard _ (bytes (search)) _ _ _ _ _ _ _ e in
+    let e = sym (p .0) ∙ ap rangeOf (told .written .given .1) in
+    let r = toZ-ofZ {w = w64} (sfits-of (c .given .ok)) ∙ c .given .ensures in
     rw (sym (toZ-ofZ (start .fits .a)), sym (toZ-ofZ (start .fits .b)))
-    (code-given rangeWritten e, (told-given e l, (p .1 .0, (p .1 .1, store-given rangeMatching _ e))))
+    (code-given rangeWritten e r, (told-given e r, (p .1 .0, (p .1 .1, store-given rangeMatching _ e))))
 
 pub fieldmap-column-spec : {M : Type 1} → statement M
 fieldmap-column-spec =
@@ -42,6 +52,7 @@ fieldmap-column-spec =
     (search needs)
     (λ c κs. search needs)
     (search needs)
+    given-requires
     (search needs)
     (search needs)
     returns

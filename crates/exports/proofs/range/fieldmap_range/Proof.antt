@@ -1,6 +1,9 @@
 -- `exports::range::fieldmap_range` meets its contract. Assumes nothing.
+use mir.Syntax.{w64}
+use mir.Facts.{toZ-ofZ}
 use mathlib.Core.Path.{_∙_, sym, ap}
-use borrow.Author.Needs.{needs}
+use native.Mathlib.Omega.{arith}
+use borrow.Author.Needs.{needs, sfits-of}
 use Rattle.format.specs.Layout.{layout32, standard}
 use Rattle.format.specs.Bytes.{AllBytes}
 use Rattle.format.specs.Laws.Calls.Numbers.{range-fits}
@@ -13,25 +16,33 @@ use Rattle.exports.proofs.range.fieldmap_range.Tie as tie
 bytes : (k : tie.After-shared-slice-known) → AllBytes (k .before .args .archive .now)
 bytes k i = k .shared-slice-known .given i .fits
 
+given-requires : tie.Need-given-requires
+given-requires c κs =
+    let call : tie.After-range = search in
+    let told : tie.After-written = search in
+    let e = sym (call .range .ensures .0) ∙ ap rangeOf (told .written .given .1) in
+    omega (arith, range-fits layout32 standard _ (bytes (search)) _ _ _ _ _ e)
+
 returns : tie.Need-returns
 returns c =
     let call : tie.After-range = search in
     let b : tie.After-bound2 = search in
     let p = call .range .ensures in
     let e = sym (p .0) ∙ ap rangeOf (c .before .before .why .given .1) in
-    let r = c .refused .ensures in
+    let r = toZ-ofZ {w = w64} (sfits-of (c .refused .ok)) ∙ c .refused .ensures in
     rw (sym (b .before .bound .ensures), sym (b .bound2 .ensures))
     (code-refused rangeWritten e r, (told-refused (c .before .before .why .given .0 .0) e r, (p .1 .0, (p .1 .1, store-refused rangeMatching _ e))))
 
 returns-2 : tie.Need-returns-2
 returns-2 c =
+    let told : tie.After-written = search in
     let call : tie.After-range = search in
     let b : tie.After-bound2 = search in
     let p = call .range .ensures in
-    let e = sym (p .0) ∙ ap rangeOf (c .before .written .given .1) in
-    let l = range-fits layout32 standard _ (bytes (search)) _ _ _ _ _ e in
+    let e = sym (p .0) ∙ ap rangeOf (told .written .given .1) in
+    let r = toZ-ofZ {w = w64} (sfits-of (c .given .ok)) ∙ c .given .ensures in
     rw (sym (b .before .bound .ensures), sym (b .bound2 .ensures))
-    (code-given rangeWritten e, (told-given e l, (p .1 .0, (p .1 .1, store-given rangeMatching _ e))))
+    (code-given rangeWritten e r, (told-given e r, (p .1 .0, (p .1 .1, store-given rangeMatching _ e))))
 
 pub fieldmap-range-spec : {M : Type 1} → statement M
 fieldmap-range-spec =
@@ -43,6 +54,7 @@ fieldmap-range-spec =
     (search needs)
     (λ c κs. search needs)
     (search needs)
+    given-requires
     (search needs)
     (search needs)
     returns

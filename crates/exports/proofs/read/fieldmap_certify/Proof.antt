@@ -1,7 +1,10 @@
 -- `exports::read::fieldmap_certify` meets its contract. Assumes nothing.
+use mir.Syntax.{w64}
+use mir.Facts.{toZ-ofZ}
 use Prim.Native.Nat.{ℕ}
-use mathlib.Core.Path.{_∙_, ap}
-use borrow.Author.Needs.{needs}
+use mathlib.Core.Path.{_∙_, sym, ap}
+use native.Mathlib.Omega.{arith}
+use borrow.Author.Needs.{needs, sfits-of}
 use Rattle.format.specs.Layout.{layout32, standard}
 use Rattle.format.specs.Bytes.{AllBytes}
 use Rattle.format.specs.Laws.Calls.Numbers.{count-fits}
@@ -14,12 +17,14 @@ use Rattle.exports.proofs.read.fieldmap_certify.Tie as tie
 bytes : (k : tie.After-shared-slice-known) → AllBytes (k .before .args .archive .now)
 bytes k i = k .shared-slice-known .given i .fits
 
+counted-requires : tie.Need-counted-requires
+counted-requires c κs = λ n e. omega (arith, count-fits layout32 standard _ (bytes (search)) n (certified-accepts layout32 standard _ n (sym (c .certify .ensures) ∙ e)))
+
 returns : tie.Need-returns
 returns c =
     let e = c .before .certify .ensures in
-    let a = c .counted .ensures ∙ ap (coded (λ (n : ℕ). n)) e in
-    let b = bytes (c .before .before) in
-    (a, told-counted (c .before .certify .result) e (λ n g. count-fits layout32 standard _ b n (certified-accepts layout32 standard _ n g)) a)
+    let a = toZ-ofZ {w = w64} (sfits-of (c .counted .ok)) ∙ c .counted .ensures ∙ ap (coded (λ (n : ℕ). n)) e in
+    (a, told-counted (c .before .certify .result) e a)
 
 pub fieldmap-certify-spec : {M : Type 1} → statement M
-fieldmap-certify-spec = tie.close (tie.spec (search needs) (search needs) returns)
+fieldmap-certify-spec = tie.close (tie.spec (search needs) counted-requires returns)

@@ -1,7 +1,10 @@
 -- `exports::read::fieldmap_check` meets its contract. Assumes nothing.
+use mir.Syntax.{w64}
+use mir.Facts.{toZ-ofZ}
 use Prim.Native.Nat.{ℕ}
-use mathlib.Core.Path.{_∙_, ap}
-use borrow.Author.Needs.{needs}
+use mathlib.Core.Path.{_∙_, sym, ap}
+use native.Mathlib.Omega.{arith}
+use borrow.Author.Needs.{needs, sfits-of}
 use Rattle.format.specs.Layout.{layout32, standard}
 use Rattle.format.specs.Bytes.{AllBytes}
 use Rattle.format.specs.Laws.Calls.Numbers.{count-fits}
@@ -13,11 +16,14 @@ use Rattle.exports.proofs.read.fieldmap_check.Tie as tie
 bytes : (k : tie.After-shared-slice-known) → AllBytes (k .before .args .archive .now)
 bytes k i = k .shared-slice-known .given i .fits
 
+counted-requires : tie.Need-counted-requires
+counted-requires c κs = λ n e. omega (arith, count-fits layout32 standard _ (bytes (search)) n (sym (c .check .ensures) ∙ e))
+
 returns : tie.Need-returns
 returns c =
     let e = c .before .check .ensures in
-    let a = c .counted .ensures ∙ ap (coded (λ (n : ℕ). n)) e in
-    (a, told-counted (c .before .check .result) e (count-fits layout32 standard _ (bytes (c .before .before))) a)
+    let a = toZ-ofZ {w = w64} (sfits-of (c .counted .ok)) ∙ c .counted .ensures ∙ ap (coded (λ (n : ℕ). n)) e in
+    (a, told-counted (c .before .check .result) e a)
 
 pub fieldmap-check-spec : {M : Type 1} → statement M
-fieldmap-check-spec = tie.close (tie.spec (search needs) (search needs) returns)
+fieldmap-check-spec = tie.close (tie.spec (search needs) counted-requires returns)

@@ -1,7 +1,8 @@
 -- `exports::read::fieldmap_lookup` meets its contract. Assumes nothing.
-use mathlib.Core.Path.{_∙_, sym, ap}
-use native.Mathlib.Omega.{arith}
-use borrow.Author.Needs.{needs}
+use mir.Syntax.{w64}
+use mir.Facts.{toZ-ofZ}
+use mathlib.Core.Path.{refl, _∙_, sym, ap}
+use borrow.Author.Needs.{needs, sfits-of}
 use Rattle.fieldmap.specs.Answers.{lookupOf}
 use Rattle.exports.specs.Answers.{foundFlag, entryValue, entryPosition}
 use Rattle.exports.proofs.Given.{code-given, code-refused, told-given, told-refused, found-stored, nothing-stored, refused-stored}
@@ -12,18 +13,18 @@ returns : tie.Need-returns
 returns c =
     let call : tie.After-lookup = search in
     let e = sym (call .lookup .ensures) ∙ ap lookupOf (c .before .before .why .given .1) in
-    let r = c .refused .ensures in
+    let r = toZ-ofZ {w = w64} (sfits-of (c .refused .ok)) ∙ c .refused .ensures in
     (code-refused foundFlag e r, (told-refused (c .before .before .why .given .0 .0) e r, (refused-stored entryValue _ e, refused-stored entryPosition _ e)))
 
 returns-2 : tie.Need-returns-2
 returns-2 c =
     let e = sym (c .before .before .lookup .ensures) ∙ ap lookupOf (c .enum-told .given .1) in
-    (code-given foundFlag e, (told-given e (omega arith), (nothing-stored entryValue _ e, nothing-stored entryPosition _ e)))
+    (code-given foundFlag e refl, (told-given e refl, (nothing-stored entryValue _ e, nothing-stored entryPosition _ e)))
 
 returns-3 : tie.Need-returns-3
 returns-3 c =
     let e = sym (c .before .before .before .lookup .ensures) ∙ ap lookupOf (c .before .e .given .1) in
-    (code-given foundFlag e, (told-given e (omega arith), (found-stored entryValue _ e, found-stored entryPosition _ e)))
+    (code-given foundFlag e refl, (told-given e refl, (found-stored entryValue _ e, found-stored entryPosition _ e)))
 
 pub fieldmap-lookup-spec : {M : Type 1} → statement M
 fieldmap-lookup-spec =

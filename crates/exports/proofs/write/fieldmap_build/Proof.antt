@@ -1,8 +1,10 @@
 -- `exports::write::fieldmap_build` meets its contract. Assumes nothing.
+use mir.Syntax.{w64}
+use mir.Facts.{toZ-ofZ}
 use Prim.Native.Nat.{ℕ}
 use mathlib.Core.Path.{_∙_, sym, ap}
 use native.Mathlib.Omega.{arith}
-use borrow.Author.Needs.{needs}
+use borrow.Author.Needs.{needs, sfits-of}
 use Rattle.format.specs.Layout.{standard}
 use Rattle.format.specs.Bytes.{AllWords}
 use Rattle.format.specs.Laws.Calls.Numbers.{build-fits}
@@ -18,21 +20,29 @@ module _ (k : tie.After-shared-slice-known2) where
   values-fit : AllWords (k .before .before .before .args .values .now)
   values-fit i = k .shared-slice-known2 .given i .fits
 
-returns : tie.Need-returns
+given-requires : tie.Need-given-requires
 unfolding standard
+given-requires c κs =
+    let call : tie.After-build = search in
+    let told : tie.After-end = search in
+    let e = sym (call .build .ensures .0) ∙ ap builtOf (told .end .given .1) in
+    omega (arith, build-fits _ _ _ _ _ (keys-fit (search)) (values-fit (search)) e)
+
+returns : tie.Need-returns
 returns c =
     let call : tie.After-build = search in
+    let told : tie.After-end = search in
     let p = call .build .ensures in
-    let e = sym (p .0) ∙ ap builtOf (c .before .end .given .1) in
-    let l = build-fits _ _ _ _ _ (keys-fit (search)) (values-fit (search)) e in
-    (code-given (λ (n : ℕ). n) e, (told-given e (omega arith), p .1))
+    let e = sym (p .0) ∙ ap builtOf (told .end .given .1) in
+    let r = toZ-ofZ {w = w64} (sfits-of (c .given .ok)) ∙ c .given .ensures in
+    (code-given (λ (n : ℕ). n) e r, (told-given e r, p .1))
 
 returns-2 : tie.Need-returns-2
 returns-2 c =
     let call : tie.After-build = search in
     let p = call .build .ensures in
     let e = sym (p .0) ∙ ap builtOf (c .before .before .why .given .1) in
-    let r = c .refused .ensures in
+    let r = toZ-ofZ {w = w64} (sfits-of (c .refused .ok)) ∙ c .refused .ensures in
     (code-refused (λ (n : ℕ). n) e r, (told-refused (c .before .before .why .given .0 .0) e r, p .1))
 
 pub fieldmap-build-spec : {M : Type 1} → statement M
@@ -41,6 +51,7 @@ fieldmap-build-spec =
     (tie.spec
     (λ c κs. search needs)
     (search needs)
+    given-requires
     (search needs)
     (λ c κs. search needs)
     (search needs)
