@@ -1,15 +1,17 @@
-//! Bytes that have passed the check, or certification, as types.
+//! Bytes that have passed the check, as a type.
 
-use core::ops::{RangeBounds, RangeInclusive};
-
-use crate::{Entry, Matched, Refusal, Walked};
+use crate::{Certified, Entry, Refusal, Walked};
 
 /// Why a reader does not refuse bytes that passed before.
-const PASSED: &str = "the same bytes passed before";
+pub(crate) const PASSED: &str = "the same bytes passed before";
 
 /// An accepted archive: its readers are not refused.
 ///
 /// The library's readers check on every call; this type only says that the check has passed, and each of its readers runs it again.
+/// [`get_many`](Self::get_many) looks up many keys after one check.
+///
+/// The archive need not be certified. Its lookups give what rkyv's search finds, which can miss an entry that the walk shows; those of
+/// [`Certified`] miss nothing.
 ///
 /// ```
 /// let mut bytes = [0; 104];
@@ -19,7 +21,8 @@ const PASSED: &str = "the same bytes passed before";
 /// assert_eq!(archive.get(9).map(|entry| entry.value), Some(90));
 /// # Ok::<(), fieldmap::Refusal>(())
 /// ```
-#[derive(Clone, Copy, Debug)]
+#[must_use]
+#[derive(Clone, Copy, Debug, PartialEq, Eq, Hash)]
 pub struct Archive<'a> {
     bytes: &'a [u8],
     count: usize,
@@ -31,101 +34,198 @@ impl<'a> Archive<'a> {
     /// # Errors
     ///
     /// The first fault of 1 to 7.
+    ///
+    /// ```
+    /// use fieldmap::{Archive, Refusal};
+    ///
+    /// assert_eq!(Archive::check(&[1, 0, 0, 0, 0, 0, 0, 0])?.count(), 0);
+    /// assert_eq!(Archive::check(&[]), Err(Refusal::InvalidSubtreePointer));
+    /// # Ok::<(), Refusal>(())
+    /// ```
     pub fn check(bytes: &'a [u8]) -> Result<Self, Refusal> {
         let count = crate::check(bytes)?;
         Ok(Self { bytes, count })
     }
 
+    /// The archive whose recorded count certification has just given.
+    pub(crate) fn passed(bytes: &'a [u8], count: usize) -> Self {
+        Self { bytes, count }
+    }
+
     /// The archive's bytes.
+    ///
+    /// ```
+    /// let bytes = [1, 0, 0, 0, 0, 0, 0, 0];
+    /// assert_eq!(fieldmap::Archive::check(&bytes)?.bytes(), bytes);
+    /// # Ok::<(), fieldmap::Refusal>(())
+    /// ```
+    #[must_use]
     pub fn bytes(self) -> &'a [u8] {
         self.bytes
     }
 
-    /// How many entries it has.
+    /// How many entries the walk shows, which is the recorded count.
+    ///
+    /// ```
+    /// # let mut bytes = [0; 104];
+    /// # fieldmap::build(&mut bytes, 0, &[1, 5, 9], &[10, 50, 90])?;
+    /// assert_eq!(fieldmap::Archive::check(&bytes)?.count(), 3);
+    /// # Ok::<(), fieldmap::Refusal>(())
+    /// ```
+    #[must_use]
     pub fn count(self) -> usize {
         self.count
     }
 
-    /// The entry with a key.
+    /// The same as [`count`](Self::count).
+    ///
+    /// ```
+    /// # let mut bytes = [0; 104];
+    /// # fieldmap::build(&mut bytes, 0, &[1, 5, 9], &[10, 50, 90])?;
+    /// assert_eq!(fieldmap::Archive::check(&bytes)?.len(), 3);
+    /// # Ok::<(), fieldmap::Refusal>(())
+    /// ```
+    #[must_use]
+    pub fn len(self) -> usize {
+        self.count
+    }
+
+    /// Whether it has no entry.
+    ///
+    /// ```
+    /// assert!(fieldmap::Archive::check(&[1, 0, 0, 0, 0, 0, 0, 0])?.is_empty());
+    /// # Ok::<(), fieldmap::Refusal>(())
+    /// ```
+    #[must_use]
+    pub fn is_empty(self) -> bool {
+        self.count == 0
+    }
+
+    /// What rkyv's search finds for a key. Where the archive is not certified, that can miss an entry that the walk shows.
+    ///
+    /// # Panics
+    ///
+    /// Only if the linked library refuses bytes that it has accepted, which it is proved not to do.
+    ///
+    /// ```
+    /// let mut bytes = [0; 104];
+    /// fieldmap::build(&mut bytes, 0, &[1, 5, 9], &[10, 50, 90])?;
+    /// // The first key, in bytes 8 to 15, becomes 6: the check accepts that, and the search for 5 stops there.
+    /// bytes[8] = 6;
+    /// let archive = fieldmap::Archive::check(&bytes)?;
+    /// assert_eq!(archive.get(9).map(|entry| entry.value), Some(90));
+    /// assert_eq!(archive.get(5), None);
+    /// # Ok::<(), fieldmap::Refusal>(())
+    /// ```
+    #[must_use]
     pub fn get(self, key: u64) -> Option<Entry> {
         crate::lookup(self.bytes, key).expect(PASSED)
     }
 
-    /// The eight bytes of a key's value, or the empty part.
+    /// The eight bytes of the value that [`get`](Self::get) finds, as a part of the archive, or the empty part. It misses what `get` misses.
+    ///
+    /// ```
+    /// # let mut bytes = [0; 104];
+    /// # fieldmap::build(&mut bytes, 0, &[1, 5, 9], &[10, 50, 90])?;
+    /// let archive = fieldmap::Archive::check(&bytes)?;
+    /// assert_eq!(archive.get_bytes(9), 90_u64.to_le_bytes());
+    /// assert!(archive.get_bytes(8).is_empty());
+    /// # Ok::<(), fieldmap::Refusal>(())
+    /// ```
+    #[must_use]
     pub fn get_bytes(self, key: u64) -> &'a [u8] {
         crate::lookup_bytes(self.bytes, key)
     }
 
-    /// Writes keys and values until the shorter list is full.
+    /// Looks up keys after one check, as [`lookup_many`](crate::lookup_many()) does, and gives the number found. It misses what
+    /// [`get`](Self::get) misses.
+    ///
+    /// # Panics
+    ///
+    /// As [`get`](Self::get).
+    ///
+    /// ```
+    /// # let mut bytes = [0; 104];
+    /// # fieldmap::build(&mut bytes, 0, &[1, 5, 9], &[10, 50, 90])?;
+    /// let mut values = [0; 2];
+    /// assert_eq!(fieldmap::Archive::check(&bytes)?.get_many(&[9, 8], &mut values), 1);
+    /// assert_eq!(values, [90, 0]);
+    /// # Ok::<(), fieldmap::Refusal>(())
+    /// ```
+    pub fn get_many(self, keys: &[u64], values: &mut [u64]) -> usize {
+        crate::lookup_many(self.bytes, keys, values).expect(PASSED)
+    }
+
+    /// Whether [`get`](Self::get) finds an entry. It misses what `get` misses.
+    ///
+    /// # Panics
+    ///
+    /// As [`get`](Self::get).
+    ///
+    /// ```
+    /// # let mut bytes = [0; 104];
+    /// # fieldmap::build(&mut bytes, 0, &[1, 5, 9], &[10, 50, 90])?;
+    /// assert!(fieldmap::Archive::check(&bytes)?.contains_key(9));
+    /// # Ok::<(), fieldmap::Refusal>(())
+    /// ```
+    #[must_use]
+    pub fn contains_key(self, key: u64) -> bool {
+        self.get(key).is_some()
+    }
+
+    /// Writes keys and values in the order of the walk until the shorter list is full.
+    ///
+    /// # Panics
+    ///
+    /// As [`get`](Self::get).
+    ///
+    /// ```
+    /// # let mut bytes = [0; 104];
+    /// # fieldmap::build(&mut bytes, 0, &[1, 5, 9], &[10, 50, 90])?;
+    /// let (mut keys, mut values) = ([0; 3], [0; 3]);
+    /// let walked = fieldmap::Archive::check(&bytes)?.walk(&mut keys, &mut values);
+    /// assert_eq!((walked.written, keys, values), (3, [1, 5, 9], [10, 50, 90]));
+    /// # Ok::<(), fieldmap::Refusal>(())
+    /// ```
     pub fn walk(self, keys: &mut [u64], values: &mut [u64]) -> Walked {
         crate::walk(self.bytes, keys, values).expect(PASSED)
     }
 
-    /// The same archive, if [`certify`](crate::certify()) accepts it.
+    /// The same archive, if [`certify`](crate::certify()) accepts it. That checks again; [`Certified::certify`] takes bytes and checks once.
     ///
     /// # Errors
     ///
     /// 8 or 9.
+    ///
+    /// ```
+    /// # let mut bytes = [0; 104];
+    /// # fieldmap::build(&mut bytes, 0, &[1, 5, 9], &[10, 50, 90])?;
+    /// assert!(fieldmap::Archive::check(&bytes)?.certify().is_ok());
+    /// # Ok::<(), fieldmap::Refusal>(())
+    /// ```
     pub fn certify(self) -> Result<Certified<'a>, Refusal> {
-        crate::certify(self.bytes)?;
-        Ok(Certified { archive: self })
+        Certified::certify(self.bytes)
     }
 }
 
-/// A certified archive: its keys strictly ascend and no node is hollow. Each of its readers certifies again.
-///
-/// ```
-/// let mut bytes = [0; 104];
-/// fieldmap::build(&mut bytes, 0, &[1, 5, 9], &[10, 50, 90])?;
-/// let certified = fieldmap::Certified::certify(&bytes)?;
-/// let (mut keys, mut values) = ([0; 3], [0; 3]);
-/// assert_eq!(certified.range(..9, &mut keys, &mut values).matching, 2);
-/// assert_eq!(certified.archive().count(), 3);
-/// # Ok::<(), fieldmap::Refusal>(())
-/// ```
-#[derive(Clone, Copy, Debug)]
-pub struct Certified<'a> {
-    archive: Archive<'a>,
+impl<'a> TryFrom<&'a [u8]> for Archive<'a> {
+    type Error = Refusal;
+
+    /// As [`Archive::check`].
+    fn try_from(bytes: &'a [u8]) -> Result<Self, Refusal> {
+        Self::check(bytes)
+    }
 }
 
-impl<'a> Certified<'a> {
-    /// The archive, if [`certify`](crate::certify()) accepts it.
-    ///
-    /// # Errors
-    ///
-    /// The first fault of 1 to 9.
-    pub fn certify(bytes: &'a [u8]) -> Result<Self, Refusal> {
-        Archive::check(bytes)?.certify()
+impl<'a> From<Certified<'a>> for Archive<'a> {
+    /// As [`Certified::archive`].
+    fn from(certified: Certified<'a>) -> Self {
+        certified.archive()
     }
+}
 
-    /// The same archive as an accepted one, with its readers.
-    pub fn archive(self) -> Archive<'a> {
-        self.archive
-    }
-
-    /// Writes keys and values of the entries that meet both bounds until the shorter list is full, and counts them all.
-    pub fn range(
-        self,
-        bounds: impl RangeBounds<u64>,
-        keys: &mut [u64],
-        values: &mut [u64],
-    ) -> Matched {
-        crate::range(self.archive.bytes, bounds, keys, values).expect(PASSED)
-    }
-
-    /// The range of a column query.
-    ///
-    /// # Errors
-    ///
-    /// 18, where the examination or the eye does not fit its field.
-    pub fn column(
-        self,
-        examination: u32,
-        eye: u8,
-        x: RangeInclusive<i8>,
-        keys: &mut [u64],
-        values: &mut [u64],
-    ) -> Result<Matched, Refusal> {
-        crate::column(self.archive.bytes, examination, eye, x, keys, values)
+impl AsRef<[u8]> for Archive<'_> {
+    fn as_ref(&self) -> &[u8] {
+        self.bytes
     }
 }

@@ -1,12 +1,12 @@
 //! The calls of the static library, with C's calling convention, and a safe function over each.
 //!
-//! A slice passes as a pointer and a length, a lent number as a pointer. Nothing checks these declarations against the library's source;
-//! `include/fieldmap.h` says the same in C.
+//! A slice passes as a pointer and a length, a lent number as a pointer. Each call answers a number from 0 on, or minus a refusal's number.
+//! Nothing checks these declarations against the library's source; `include/fieldmap.h` says the same in C.
 
 extern "C" {
-    fn fieldmap_check(archive: *const u8, archive_len: usize) -> u64;
+    fn fieldmap_check(archive: *const u8, archive_len: usize) -> i64;
 
-    fn fieldmap_certify(archive: *const u8, archive_len: usize) -> u64;
+    fn fieldmap_certify(archive: *const u8, archive_len: usize) -> i64;
 
     fn fieldmap_lookup(
         archive: *const u8,
@@ -14,14 +14,14 @@ extern "C" {
         key: u64,
         value: *mut u64,
         position: *mut u64,
-    ) -> u64;
+    ) -> i64;
 
     fn fieldmap_lookup_bytes(
         archive: *const u8,
         archive_len: usize,
         key: u64,
         start: *mut u64,
-    ) -> u64;
+    ) -> i64;
 
     fn fieldmap_lookup_many(
         archive: *const u8,
@@ -30,7 +30,7 @@ extern "C" {
         keys_len: usize,
         values: *mut u64,
         values_len: usize,
-    ) -> u64;
+    ) -> i64;
 
     fn fieldmap_walk(
         archive: *const u8,
@@ -40,7 +40,7 @@ extern "C" {
         values: *mut u64,
         values_len: usize,
         count: *mut u64,
-    ) -> u64;
+    ) -> i64;
 
     fn fieldmap_range(
         archive: *const u8,
@@ -54,7 +54,7 @@ extern "C" {
         values: *mut u64,
         values_len: usize,
         matching: *mut u64,
-    ) -> u64;
+    ) -> i64;
 
     fn fieldmap_column(
         archive: *const u8,
@@ -68,7 +68,7 @@ extern "C" {
         values: *mut u64,
         values_len: usize,
         matching: *mut u64,
-    ) -> u64;
+    ) -> i64;
 
     fn fieldmap_build(
         out: *mut u8,
@@ -78,15 +78,17 @@ extern "C" {
         keys_len: usize,
         values: *const u64,
         values_len: usize,
-    ) -> u64;
+    ) -> i64;
 
-    fn fieldmap_signed_offset(from: u64, to: u64, offset: *mut i64) -> u64;
+    fn fieldmap_build_length(entries: usize, header: usize) -> i64;
 
-    fn fieldmap_offset32(from: u64, to: u64, offset: *mut i32) -> u64;
+    fn fieldmap_signed_offset(from: u64, to: u64, offset: *mut i64) -> i64;
 
-    fn fieldmap_absent_offset(at: u64, offset: *mut i32) -> u64;
+    fn fieldmap_offset32(from: u64, to: u64, offset: *mut i32) -> i64;
 
-    fn fieldmap_align(pos: u64, alignment: u64, next: *mut u64, zeros: *mut u64) -> u64;
+    fn fieldmap_absent_offset(at: u64, offset: *mut i32) -> i64;
+
+    fn fieldmap_align(pos: u64, alignment: u64, next: *mut u64, zeros: *mut u64) -> i64;
 
     fn fieldmap_pack(
         examination: u32,
@@ -95,7 +97,7 @@ extern "C" {
         y: i8,
         presentation: u32,
         key: *mut u64,
-    ) -> u64;
+    ) -> i64;
 
     fn fieldmap_unpack(
         key: u64,
@@ -104,33 +106,38 @@ extern "C" {
         x: *mut i8,
         y: *mut i8,
         presentation: *mut u32,
-    );
+    ) -> i64;
+
+    fn fieldmap_seen(value: u64) -> i64;
+
+    fn fieldmap_threshold(value: u64) -> i64;
 }
 
-// SAFETY, of every call below: a pointer and a length are those of a slice, a lone pointer is a reference's, and each is live for the
-// call. The library reads and writes nothing else, whatever the bytes and the lengths are, and keeps no pointer.
+// SAFETY, of every call below: a pointer and a length are those of a slice, a lone pointer is a reference's, and each is live and aligned
+// for the call; what is written is borrowed mutably, so no other pointer leads there. The library reads and writes nothing else, whatever
+// the bytes and the lengths are, and keeps no pointer.
 
-pub fn check(archive: &[u8]) -> u64 {
+pub fn check(archive: &[u8]) -> i64 {
     // SAFETY: as above.
     unsafe { fieldmap_check(archive.as_ptr(), archive.len()) }
 }
 
-pub fn certify(archive: &[u8]) -> u64 {
+pub fn certify(archive: &[u8]) -> i64 {
     // SAFETY: as above.
     unsafe { fieldmap_certify(archive.as_ptr(), archive.len()) }
 }
 
-pub fn lookup(archive: &[u8], key: u64, value: &mut u64, position: &mut u64) -> u64 {
+pub fn lookup(archive: &[u8], key: u64, value: &mut u64, position: &mut u64) -> i64 {
     // SAFETY: as above.
     unsafe { fieldmap_lookup(archive.as_ptr(), archive.len(), key, value, position) }
 }
 
-pub fn lookup_bytes(archive: &[u8], key: u64, start: &mut u64) -> u64 {
+pub fn lookup_bytes(archive: &[u8], key: u64, start: &mut u64) -> i64 {
     // SAFETY: as above.
     unsafe { fieldmap_lookup_bytes(archive.as_ptr(), archive.len(), key, start) }
 }
 
-pub fn lookup_many(archive: &[u8], keys: &[u64], values: &mut [u64]) -> u64 {
+pub fn lookup_many(archive: &[u8], keys: &[u64], values: &mut [u64]) -> i64 {
     // SAFETY: as above.
     unsafe {
         fieldmap_lookup_many(
@@ -144,7 +151,7 @@ pub fn lookup_many(archive: &[u8], keys: &[u64], values: &mut [u64]) -> u64 {
     }
 }
 
-pub fn walk(archive: &[u8], keys: &mut [u64], values: &mut [u64], count: &mut u64) -> u64 {
+pub fn walk(archive: &[u8], keys: &mut [u64], values: &mut [u64], count: &mut u64) -> i64 {
     // SAFETY: as above.
     unsafe {
         fieldmap_walk(
@@ -167,7 +174,7 @@ pub fn range(
     keys: &mut [u64],
     values: &mut [u64],
     matching: &mut u64,
-) -> u64 {
+) -> i64 {
     // SAFETY: as above.
     unsafe {
         fieldmap_range(
@@ -195,7 +202,7 @@ pub fn column(
     keys: &mut [u64],
     values: &mut [u64],
     matching: &mut u64,
-) -> u64 {
+) -> i64 {
     // SAFETY: as above.
     unsafe {
         fieldmap_column(
@@ -214,7 +221,7 @@ pub fn column(
     }
 }
 
-pub fn build(out: &mut [u8], header: usize, keys: &[u64], values: &[u64]) -> u64 {
+pub fn build(out: &mut [u8], header: usize, keys: &[u64], values: &[u64]) -> i64 {
     // SAFETY: as above.
     unsafe {
         fieldmap_build(
@@ -229,27 +236,32 @@ pub fn build(out: &mut [u8], header: usize, keys: &[u64], values: &[u64]) -> u64
     }
 }
 
-pub fn signed_offset(from: u64, to: u64, offset: &mut i64) -> u64 {
+pub fn build_length(entries: usize, header: usize) -> i64 {
+    // SAFETY: no pointer passes.
+    unsafe { fieldmap_build_length(entries, header) }
+}
+
+pub fn signed_offset(from: u64, to: u64, offset: &mut i64) -> i64 {
     // SAFETY: as above.
     unsafe { fieldmap_signed_offset(from, to, offset) }
 }
 
-pub fn offset32(from: u64, to: u64, offset: &mut i32) -> u64 {
+pub fn offset32(from: u64, to: u64, offset: &mut i32) -> i64 {
     // SAFETY: as above.
     unsafe { fieldmap_offset32(from, to, offset) }
 }
 
-pub fn absent_offset(at: u64, offset: &mut i32) -> u64 {
+pub fn absent_offset(at: u64, offset: &mut i32) -> i64 {
     // SAFETY: as above.
     unsafe { fieldmap_absent_offset(at, offset) }
 }
 
-pub fn align(pos: u64, alignment: u64, next: &mut u64, zeros: &mut u64) -> u64 {
+pub fn align(pos: u64, alignment: u64, next: &mut u64, zeros: &mut u64) -> i64 {
     // SAFETY: as above.
     unsafe { fieldmap_align(pos, alignment, next, zeros) }
 }
 
-pub fn pack(examination: u32, eye: u8, (x, y): (i8, i8), presentation: u32, key: &mut u64) -> u64 {
+pub fn pack(examination: u32, eye: u8, (x, y): (i8, i8), presentation: u32, key: &mut u64) -> i64 {
     // SAFETY: as above.
     unsafe { fieldmap_pack(examination, eye, x, y, presentation, key) }
 }
@@ -260,7 +272,17 @@ pub fn unpack(
     eye: &mut u8,
     (x, y): (&mut i8, &mut i8),
     presentation: &mut u32,
-) {
+) -> i64 {
     // SAFETY: as above.
     unsafe { fieldmap_unpack(key, examination, eye, x, y, presentation) }
+}
+
+pub fn seen(value: u64) -> i64 {
+    // SAFETY: no pointer passes.
+    unsafe { fieldmap_seen(value) }
+}
+
+pub fn threshold(value: u64) -> i64 {
+    // SAFETY: no pointer passes.
+    unsafe { fieldmap_threshold(value) }
 }

@@ -5,42 +5,78 @@
 //! this crate adds is the passing of slices and the taking apart of answers.
 //!
 //! ```
-//! let (keys, values) = ([1, 5, 9], [10, 50, 90]);
-//! let mut archive = [0; 104];
-//! let end = fieldmap::build(&mut archive, 0, &keys, &values)?;
-//! let archive = &archive[..end];
+//! use fieldmap::Certified;
 //!
-//! assert_eq!(fieldmap::certify(archive)?, 3);
-//! let entry = fieldmap::lookup(archive, 5)?.expect("there is such an entry");
-//! assert_eq!(entry.value, 50);
-//! assert_eq!(fieldmap::lookup(archive, 6)?, None);
+//! let (keys, values) = ([1, 5, 9], [10, 50, 90]);
+//! let mut out = vec![0; fieldmap::build_length(keys.len(), 0)?];
+//! let end = fieldmap::build(&mut out, 0, &keys, &values)?;
+//!
+//! let archive = Certified::certify(&out[..end])?;
+//! assert_eq!(archive.len(), 3);
+//! assert_eq!(archive.get(5).map(|entry| entry.value), Some(50));
+//! assert_eq!(archive.get(6), None);
 //! # Ok::<(), fieldmap::Refusal>(())
 //! ```
 //!
-//! `check` accepts what rkyv's own check accepts; [`certify`] accepts only archives whose keys strictly ascend and that have no hollow node.
-//! Every reader runs the check first, on every call. [`Archive`] and [`Certified`] say in a type that bytes have passed; they do not spare
-//! the check.
+//! # Open and certified archives
+//!
+//! [`check`] accepts what rkyv's own check accepts. [`certify`] accepts only archives whose keys also strictly ascend and that have no hollow
+//! node. On a certified archive a lookup gives exactly the entry of the walk with that key, or that there is none. On an archive that is only
+//! accepted it gives what rkyv's search finds, which can miss an entry that the walk shows.
+//!
+//! # The check on every call
+//!
+//! Every reader runs the check first, [`range`] and [`column`](column()) certification, on every call. [`Archive`] and [`Certified`] say in a type that
+//! bytes have passed; they do not spare the check. [`lookup_many`] looks up many keys after one check.
+//!
+//! # Panics
+//!
+//! No call panics while the linked library answers as its header says.
+//!
+//! # Features
+//!
+//! - `alloc`: calls that give vectors and maps, `entries`, `to_map`, `entries_in` and `archive_of`. Off unless asked for; without it the crate
+//!   uses nothing but `core`.
 #![no_std]
 #![deny(missing_docs, unsafe_code)]
 
-use core::ops::{Bound, RangeBounds, RangeInclusive};
+#[cfg(feature = "alloc")]
+extern crate alloc;
 
 mod archive;
+mod builder;
+mod certified;
 #[allow(unsafe_code)]
 mod ffi;
 mod key;
+#[cfg(feature = "alloc")]
+mod owned;
 mod parts;
+mod ranges;
+mod readers;
 mod refusal;
+mod value;
 
-pub use archive::{Archive, Certified};
-pub use key::{Key, Value};
+pub use archive::Archive;
+pub use builder::{build, build_length};
+pub use certified::Certified;
+pub use key::Key;
+#[cfg(feature = "alloc")]
+pub use owned::archive_of;
 pub use parts::{absent_offset, align, offset32, signed_offset, Aligned};
-pub use refusal::Refusal;
-
-use refusal::answer;
+pub use ranges::{column, range, Matched};
+pub use readers::{certify, check, lookup, lookup_bytes, lookup_many, walk, Entry, Walked};
+pub use refusal::{NoSuchRefusal, Refusal};
+pub use value::Value;
 
 /// The longest archive in bytes.
 pub const LONGEST_ARCHIVE: usize = 1_048_576;
+
+/// The most nodes below each other.
+pub const MOST_NESTED: usize = 14;
+
+/// The most entries of a leaf.
+pub const MOST_IN_LEAF: usize = 5;
 
 /// The most entries that [`build`] takes.
 pub const MOST_ENTRIES: usize = 40_000;
@@ -48,221 +84,6 @@ pub const MOST_ENTRIES: usize = 40_000;
 /// The longest header in bytes that [`build`] takes.
 pub const LONGEST_HEADER: usize = 4_096;
 
-/// An entry, and the position in the archive of its value's first byte.
-#[derive(Clone, Copy, Debug, PartialEq, Eq, Hash)]
-pub struct Entry {
-    /// The key.
-    pub key: u64,
-    /// The value.
-    pub value: u64,
-    /// The position of the value's first byte.
-    pub position: usize,
-}
-
-/// What a walk answers.
-#[derive(Clone, Copy, Debug, PartialEq, Eq, Hash)]
-pub struct Walked {
-    /// How many entries were written: all, or as many as the shorter list has room for.
-    pub written: usize,
-    /// How many entries the archive has, as it records.
-    pub count: usize,
-}
-
-/// What a range answers.
-#[derive(Clone, Copy, Debug, PartialEq, Eq, Hash)]
-pub struct Matched {
-    /// How many entries were written: all that match, or as many as the shorter list has room for.
-    pub written: usize,
-    /// How many entries match.
-    pub matching: usize,
-}
-
-/// The recorded count of an archive that rkyv's check accepts.
-///
-/// # Errors
-///
-/// The first fault of 1 to 7.
-///
-/// ```
-/// assert_eq!(fieldmap::check(&[1, 0, 0, 0, 0, 0, 0, 0]), Ok(0));
-/// assert_eq!(fieldmap::check(&[0; 7]), Err(fieldmap::Refusal::InvalidSubtreePointer));
-/// ```
-pub fn check(archive: &[u8]) -> Result<usize, Refusal> {
-    answer(ffi::check(archive))
-}
-
-/// The recorded count of an archive that is accepted, whose keys strictly ascend, and that has no hollow node.
-///
-/// # Errors
-///
-/// The first fault of 1 to 9.
-pub fn certify(archive: &[u8]) -> Result<usize, Refusal> {
-    answer(ffi::certify(archive))
-}
-
-/// The entry with a key, on any accepted archive.
-///
-/// # Errors
-///
-/// The first fault of 1 to 7.
-///
-/// ```
-/// let mut archive = [0; 104];
-/// fieldmap::build(&mut archive, 0, &[7], &[9])?;
-/// let entry = fieldmap::Entry { key: 7, value: 9, position: 48 };
-/// assert_eq!(fieldmap::lookup(&archive, 7)?, Some(entry));
-/// assert_eq!(fieldmap::lookup(&archive, 8)?, None);
-/// # Ok::<(), fieldmap::Refusal>(())
-/// ```
-pub fn lookup(archive: &[u8], key: u64) -> Result<Option<Entry>, Refusal> {
-    let (mut value, mut position) = (0, 0);
-    let found = answer(ffi::lookup(archive, key, &mut value, &mut position))?;
-    let position = position as usize;
-    Ok((found == 1).then_some(Entry {
-        key,
-        value,
-        position,
-    }))
-}
-
-/// The eight bytes of a key's value, as a part of the archive; the empty part where no entry has that key or the archive is refused.
-///
-/// ```
-/// let mut archive = [0; 104];
-/// fieldmap::build(&mut archive, 0, &[7], &[9])?;
-/// assert_eq!(fieldmap::lookup_bytes(&archive, 7), 9_u64.to_le_bytes());
-/// assert!(fieldmap::lookup_bytes(&archive, 8).is_empty());
-/// assert!(fieldmap::lookup_bytes(&archive[1..], 7).is_empty());
-/// # Ok::<(), fieldmap::Refusal>(())
-/// ```
-pub fn lookup_bytes(archive: &[u8], key: u64) -> &[u8] {
-    let mut start = 0;
-    let length = ffi::lookup_bytes(archive, key, &mut start) as usize;
-    let start = start as usize;
-    &archive[start..start + length]
-}
-
-/// Looks up keys after one check and stores each value that is found at the place of its key. The number of keys found.
-///
-/// Keys beyond the values' places, or past the first 4,294,967,295, are not looked up. The place of a key that is not found keeps its
-/// content.
-///
-/// # Errors
-///
-/// The first fault of 1 to 7.
-pub fn lookup_many(archive: &[u8], keys: &[u64], values: &mut [u64]) -> Result<usize, Refusal> {
-    answer(ffi::lookup_many(archive, keys, values))
-}
-
-/// Writes keys and values of an accepted archive in the order of the walk until the shorter list is full. Places not written keep their
-/// content.
-///
-/// # Errors
-///
-/// The first fault of 1 to 7.
-///
-/// ```
-/// let mut archive = [0; 104];
-/// fieldmap::build(&mut archive, 0, &[1, 5, 9], &[10, 50, 90])?;
-/// let (mut keys, mut values) = ([0; 2], [0; 4]);
-/// let walked = fieldmap::walk(&archive, &mut keys, &mut values)?;
-/// assert_eq!((walked.written, walked.count), (2, 3));
-/// assert_eq!((keys, values), ([1, 5], [10, 50, 0, 0]));
-/// # Ok::<(), fieldmap::Refusal>(())
-/// ```
-pub fn walk(archive: &[u8], keys: &mut [u64], values: &mut [u64]) -> Result<Walked, Refusal> {
-    let mut count = 0;
-    let written = answer(ffi::walk(archive, keys, values, &mut count))?;
-    let count = count as usize;
-    Ok(Walked { written, count })
-}
-
-/// Writes keys and values of the entries of a certified archive that meet both bounds, until the shorter list is full, and counts them all.
-/// Where the bounds cross, nothing matches. Places not written keep their content.
-///
-/// # Errors
-///
-/// The first fault of 1 to 9.
-///
-/// ```
-/// let mut archive = [0; 104];
-/// fieldmap::build(&mut archive, 0, &[1, 5, 9], &[10, 50, 90])?;
-/// let (mut keys, mut values) = ([0; 2], [0; 2]);
-/// let matched = fieldmap::range(&archive, 2..=9, &mut keys, &mut values)?;
-/// assert_eq!((matched.written, matched.matching), (2, 2));
-/// assert_eq!(keys, [5, 9]);
-/// assert_eq!(fieldmap::range(&archive, .., &mut keys, &mut values)?.matching, 3);
-/// # Ok::<(), fieldmap::Refusal>(())
-/// ```
-pub fn range(
-    archive: &[u8],
-    bounds: impl RangeBounds<u64>,
-    keys: &mut [u64],
-    values: &mut [u64],
-) -> Result<Matched, Refusal> {
-    let lower = passed(bounds.start_bound());
-    let upper = passed(bounds.end_bound());
-    let mut matching = 0;
-    let code = ffi::range(archive, lower, upper, keys, values, &mut matching);
-    matched(code, matching)
-}
-
-/// The range of a column query: the points of one eye of one examination with x in the given range, both ends included. It writes and
-/// answers as [`range`] does.
-///
-/// # Errors
-///
-/// The first fault of 1 to 9, then 18.
-pub fn column(
-    archive: &[u8],
-    examination: u32,
-    eye: u8,
-    x: RangeInclusive<i8>,
-    keys: &mut [u64],
-    values: &mut [u64],
-) -> Result<Matched, Refusal> {
-    let ends = (*x.start(), *x.end());
-    let mut matching = 0;
-    let code = ffi::column(archive, examination, eye, ends, keys, values, &mut matching);
-    matched(code, matching)
-}
-
-/// Writes the given entries as an archive behind the first `header` bytes of the output, which stay, and gives the archive's end. Bytes past
-/// the end stay as well.
-///
-/// A reader takes `&out[..end]`, the header included.
-///
-/// # Errors
-///
-/// The first of 10 to 14.
-///
-/// ```
-/// let mut out = [0xff; 120];
-/// assert_eq!(fieldmap::build(&mut out, 5, &[7], &[9]), Ok(112));
-/// assert_eq!(out[..5], [0xff; 5]);
-/// assert_eq!(fieldmap::certify(&out[..112]), Ok(1));
-/// ```
-pub fn build(
-    out: &mut [u8],
-    header: usize,
-    keys: &[u64],
-    values: &[u64],
-) -> Result<usize, Refusal> {
-    answer(ffi::build(out, header, keys, values))
-}
-
-/// A bound as the library takes it: its kind and its key. The key of an open bound is not read.
-fn passed(bound: Bound<&u64>) -> (u8, u64) {
-    match bound {
-        Bound::Included(&key) => (0, key),
-        Bound::Excluded(&key) => (1, key),
-        Bound::Unbounded => (2, 0),
-    }
-}
-
-/// A range's answer.
-fn matched(code: u64, matching: u64) -> Result<Matched, Refusal> {
-    let written = answer(code)?;
-    let matching = matching as usize;
-    Ok(Matched { written, matching })
-}
+#[cfg(doctest)]
+#[doc = include_str!("../README.md")]
+struct Readme;

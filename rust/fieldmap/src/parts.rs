@@ -4,7 +4,7 @@ use crate::ffi;
 use crate::refusal::{answer, Refusal};
 
 /// A position on an alignment.
-#[derive(Clone, Copy, Debug, PartialEq, Eq, Hash)]
+#[derive(Clone, Copy, Debug, Default, PartialEq, Eq, Hash)]
 pub struct Aligned {
     /// The next position that the alignment divides.
     pub next: u64,

@@ -72,36 +72,47 @@ impl Refusal {
     /// ```
     /// assert_eq!(fieldmap::Refusal::HollowNode.number(), 8);
     /// ```
+    #[must_use]
     pub const fn number(self) -> u8 {
         self as u8
     }
 
-    fn text(self) -> &'static str {
+    /// What it says in English, without the number.
+    ///
+    /// ```
+    /// assert_eq!(fieldmap::Refusal::KeysNotAscending.text(), "a key is not above the one before");
+    /// ```
+    #[must_use]
+    pub const fn text(self) -> &'static str {
         match self {
             Refusal::ArchiveTooLong => "the archive is longer than 1,048,576 bytes",
-            Refusal::InvalidSubtreePointer => "the record or a node is out of range",
+            Refusal::InvalidSubtreePointer => "the record or a node leaves its range",
             Refusal::UnalignedPointer => "the record or a node is not on its alignment",
             Refusal::InvalidKind => "a node is neither a leaf nor an inner node",
-            Refusal::ExceededMaximumSubtreeDepth => "too many nodes are nested",
-            Refusal::InvalidLength => "a leaf's count is above 5",
-            Refusal::EntriesLengthMismatch => "the entries differ from the recorded count",
-            Refusal::HollowNode => "a leaf is empty or an inner node has no first child",
-            Refusal::KeysNotAscending => "the keys do not strictly ascend",
+            Refusal::ExceededMaximumSubtreeDepth => "more than 14 nodes are nested",
+            Refusal::InvalidLength => "a leaf counts more than 5 entries",
+            Refusal::EntriesLengthMismatch => "the entries are not as many as recorded",
+            Refusal::HollowNode => "a leaf is empty, or an inner node has no first child",
+            Refusal::KeysNotAscending => "a key is not above the one before",
             Refusal::IteratorLengthMismatch => "there are not as many values as keys",
             Refusal::TooManyEntries => "there are more than 40,000 entries",
-            Refusal::GivenKeysNotAscending => "the given keys do not strictly ascend",
+            Refusal::GivenKeysNotAscending => "a given key is not above the one before",
             Refusal::HeaderTooLong => "the header is longer than 4,096 bytes",
-            Refusal::OutputTooShort => "the output is too short for the archive",
-            Refusal::IsizeOverflow => "the distance does not fit 64 bits",
-            Refusal::OffsetOverflow => "the offset does not fit 32 bits",
-            Refusal::InvalidAlignment => "the alignment or the aligned position is out of range",
-            Refusal::KeyFieldOverflow => "a field of the key is too large",
+            Refusal::OutputTooShort => "the output is shorter than header, padding and archive",
+            Refusal::IsizeOverflow => "a distance does not fit 64 bits",
+            Refusal::OffsetOverflow => "an offset does not fit 32 bits",
+            Refusal::InvalidAlignment => {
+                "the alignment is none of 1, 2, 4, 8, 16 and 32, or the next position is too large"
+            }
+            Refusal::KeyFieldOverflow => {
+                "an examination, an eye or a presentation does not fit its field"
+            }
         }
     }
 }
 
 impl fmt::Display for Refusal {
-    /// The number, and what it says: `refused 8: a leaf is empty or an inner node has no first child`.
+    /// The number, and what it says: `refused 9: a key is not above the one before`.
     fn fmt(&self, f: &mut fmt::Formatter<'_>) -> fmt::Result {
         write!(f, "refused {}: {}", self.number(), self.text())
     }
@@ -109,10 +120,46 @@ impl fmt::Display for Refusal {
 
 impl core::error::Error for Refusal {}
 
-/// An answer as the library codes it: a number below 2^32, or 2^32 and the refusal's number, 1 to 18.
-pub(crate) fn answer(code: u64) -> Result<usize, Refusal> {
-    match u32::try_from(code) {
-        Ok(number) => Ok(number as usize),
-        Err(_) => Err(Refusal::ALL[(code - (1 << 32)) as usize - 1]),
+impl From<Refusal> for u8 {
+    /// The number, 1 to 18.
+    fn from(refusal: Refusal) -> Self {
+        refusal.number()
+    }
+}
+
+impl TryFrom<u8> for Refusal {
+    type Error = NoSuchRefusal;
+
+    /// The refusal with a number.
+    ///
+    /// ```
+    /// use fieldmap::{NoSuchRefusal, Refusal};
+    ///
+    /// assert_eq!(Refusal::try_from(8), Ok(Refusal::HollowNode));
+    /// assert_eq!(Refusal::try_from(19), Err(NoSuchRefusal(19)));
+    /// ```
+    fn try_from(number: u8) -> Result<Self, NoSuchRefusal> {
+        let refusal = Refusal::ALL.into_iter().find(|why| why.number() == number);
+        refusal.ok_or(NoSuchRefusal(number))
+    }
+}
+
+/// A number that no refusal has.
+#[derive(Clone, Copy, Debug, PartialEq, Eq, Hash)]
+pub struct NoSuchRefusal(pub u8);
+
+impl fmt::Display for NoSuchRefusal {
+    fn fmt(&self, f: &mut fmt::Formatter<'_>) -> fmt::Result {
+        write!(f, "no refusal has the number {}", self.0)
+    }
+}
+
+impl core::error::Error for NoSuchRefusal {}
+
+/// An answer as the library codes it: a number from 0 on, or minus the refusal's number, -1 to -18.
+pub(crate) fn answer(code: i64) -> Result<usize, Refusal> {
+    match usize::try_from(code) {
+        Ok(number) => Ok(number),
+        Err(_) => Err(Refusal::ALL[(-1 - code) as usize]),
     }
 }

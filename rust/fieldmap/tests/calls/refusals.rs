@@ -1,8 +1,6 @@
 //! Each refusal, by every call that can give it, and what was lent afterwards.
 
-mod by_hand;
-
-use by_hand::{nested, root_leaf, Output};
+use crate::by_hand::{nested, root_leaf, Output};
 use fieldmap::Refusal;
 
 const BEFORE: u64 = 0x5555_5555_5555_5555;
@@ -136,12 +134,29 @@ fn by_10_to_14() {
 }
 
 #[test]
+fn lengths_of_builds() {
+    let number = |refusal: Refusal| refusal.number();
+    let length = |entries, header| fieldmap::build_length(entries, header).map_err(number);
+    assert_eq!(length(40_001, 4_097), Err(11));
+    assert_eq!(length(usize::MAX, 0), Err(11));
+    assert_eq!(length(40_000, 4_097), Err(13));
+    assert_eq!(length(0, usize::MAX), Err(13));
+    for (entries, header) in [(0, 0), (0, 5), (1, 0), (6, 1), (36, 4_096), (40_000, 4_095)] {
+        let keys: Vec<u64> = (0..entries).collect();
+        let end = length(keys.len(), header).unwrap();
+        let mut out = vec![0; end];
+        assert_eq!(fieldmap::build(&mut out, header, &keys, &keys), Ok(end));
+        assert_eq!(built(end - 1, header, &keys, &keys), 14);
+    }
+}
+
+#[test]
 fn numbers_and_texts() {
     for (index, refusal) in Refusal::ALL.into_iter().enumerate() {
         assert_eq!(usize::from(refusal.number()), index + 1);
         let text = refusal.to_string();
         let start = format!("refused {}: ", index + 1);
-        assert!(text.starts_with(&start) && text.len() > start.len());
+        assert_eq!(text, start + refusal.text());
         let error: &dyn std::error::Error = &refusal;
         assert!(error.source().is_none());
     }

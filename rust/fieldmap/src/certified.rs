@@ -1,0 +1,274 @@
+//! Bytes that have passed certification, as a type.
+
+use core::ops::RangeBounds;
+
+use crate::archive::PASSED;
+use crate::{Archive, Entry, Matched, Refusal, Walked};
+
+/// A certified archive: its keys strictly ascend and no node is hollow.
+///
+/// Here nothing is missed: a lookup gives the entry of the walk with that key, and none exactly where the walk shows none.
+///
+/// The library's readers check on every call, `range` and `column` certify; this type only says that certification has passed.
+/// [`get_many`](Self::get_many) looks up many keys after one check.
+///
+/// ```
+/// let mut bytes = [0; 104];
+/// fieldmap::build(&mut bytes, 0, &[1, 5, 9], &[10, 50, 90])?;
+/// let certified = fieldmap::Certified::certify(&bytes)?;
+/// assert_eq!(certified.count(), 3);
+/// assert_eq!(certified.get(5).map(|entry| entry.value), Some(50));
+/// let (mut keys, mut values) = ([0; 3], [0; 3]);
+/// assert_eq!(certified.range(..9, &mut keys, &mut values).matching, 2);
+/// # Ok::<(), fieldmap::Refusal>(())
+/// ```
+#[must_use]
+#[derive(Clone, Copy, Debug, PartialEq, Eq, Hash)]
+pub struct Certified<'a> {
+    archive: Archive<'a>,
+}
+
+impl<'a> Certified<'a> {
+    /// The archive, if [`certify`](crate::certify()) accepts it.
+    ///
+    /// # Errors
+    ///
+    /// The first fault of 1 to 9.
+    ///
+    /// ```
+    /// use fieldmap::{Certified, Refusal};
+    ///
+    /// assert_eq!(Certified::certify(&[1, 0, 0, 0, 0, 0, 0, 0])?.count(), 0);
+    /// assert_eq!(Certified::certify(&[0; 9]), Err(Refusal::UnalignedPointer));
+    /// # Ok::<(), Refusal>(())
+    /// ```
+    pub fn certify(bytes: &'a [u8]) -> Result<Self, Refusal> {
+        let archive = Archive::passed(bytes, crate::certify(bytes)?);
+        Ok(Self { archive })
+    }
+
+    /// The same archive as an accepted one.
+    ///
+    /// ```
+    /// let bytes = [1, 0, 0, 0, 0, 0, 0, 0];
+    /// let certified = fieldmap::Certified::certify(&bytes)?;
+    /// assert_eq!(certified.archive(), fieldmap::Archive::check(&bytes)?);
+    /// # Ok::<(), fieldmap::Refusal>(())
+    /// ```
+    pub fn archive(self) -> Archive<'a> {
+        self.archive
+    }
+
+    /// The archive's bytes.
+    ///
+    /// ```
+    /// let bytes = [1, 0, 0, 0, 0, 0, 0, 0];
+    /// assert_eq!(fieldmap::Certified::certify(&bytes)?.bytes(), bytes);
+    /// # Ok::<(), fieldmap::Refusal>(())
+    /// ```
+    #[must_use]
+    pub fn bytes(self) -> &'a [u8] {
+        self.archive.bytes()
+    }
+
+    /// How many entries it has.
+    ///
+    /// ```
+    /// # let mut bytes = [0; 104];
+    /// # fieldmap::build(&mut bytes, 0, &[1, 5, 9], &[10, 50, 90])?;
+    /// assert_eq!(fieldmap::Certified::certify(&bytes)?.count(), 3);
+    /// # Ok::<(), fieldmap::Refusal>(())
+    /// ```
+    #[must_use]
+    pub fn count(self) -> usize {
+        self.archive.count()
+    }
+
+    /// The same as [`count`](Self::count).
+    ///
+    /// ```
+    /// # let mut bytes = [0; 104];
+    /// # fieldmap::build(&mut bytes, 0, &[1, 5, 9], &[10, 50, 90])?;
+    /// assert_eq!(fieldmap::Certified::certify(&bytes)?.len(), 3);
+    /// # Ok::<(), fieldmap::Refusal>(())
+    /// ```
+    #[must_use]
+    pub fn len(self) -> usize {
+        self.archive.count()
+    }
+
+    /// Whether it has no entry.
+    ///
+    /// ```
+    /// assert!(fieldmap::Certified::certify(&[1, 0, 0, 0, 0, 0, 0, 0])?.is_empty());
+    /// # Ok::<(), fieldmap::Refusal>(())
+    /// ```
+    #[must_use]
+    pub fn is_empty(self) -> bool {
+        self.archive.is_empty()
+    }
+
+    /// The entry with a key, or that there is none. Nothing that the walk shows is missed.
+    ///
+    /// # Panics
+    ///
+    /// Only if the linked library refuses bytes that it has accepted, which it is proved not to do.
+    ///
+    /// ```
+    /// # let mut bytes = [0; 104];
+    /// # fieldmap::build(&mut bytes, 0, &[1, 5, 9], &[10, 50, 90])?;
+    /// let certified = fieldmap::Certified::certify(&bytes)?;
+    /// assert_eq!(certified.get(5).map(|entry| entry.value), Some(50));
+    /// assert_eq!(certified.get(6), None);
+    /// # Ok::<(), fieldmap::Refusal>(())
+    /// ```
+    #[must_use]
+    pub fn get(self, key: u64) -> Option<Entry> {
+        self.archive.get(key)
+    }
+
+    /// The eight bytes of a key's value, as a part of the archive, or the empty part where no entry has the key. Nothing is missed.
+    ///
+    /// ```
+    /// # let mut bytes = [0; 104];
+    /// # fieldmap::build(&mut bytes, 0, &[1, 5, 9], &[10, 50, 90])?;
+    /// let certified = fieldmap::Certified::certify(&bytes)?;
+    /// assert_eq!(certified.get_bytes(5), 50_u64.to_le_bytes());
+    /// # Ok::<(), fieldmap::Refusal>(())
+    /// ```
+    #[must_use]
+    pub fn get_bytes(self, key: u64) -> &'a [u8] {
+        self.archive.get_bytes(key)
+    }
+
+    /// Looks up keys after one check, as [`lookup_many`](crate::lookup_many()) does, and gives the number found. Nothing is missed.
+    ///
+    /// # Panics
+    ///
+    /// As [`get`](Self::get).
+    ///
+    /// ```
+    /// # let mut bytes = [0; 104];
+    /// # fieldmap::build(&mut bytes, 0, &[1, 5, 9], &[10, 50, 90])?;
+    /// let mut values = [0; 2];
+    /// assert_eq!(fieldmap::Certified::certify(&bytes)?.get_many(&[9, 8], &mut values), 1);
+    /// assert_eq!(values, [90, 0]);
+    /// # Ok::<(), fieldmap::Refusal>(())
+    /// ```
+    pub fn get_many(self, keys: &[u64], values: &mut [u64]) -> usize {
+        self.archive.get_many(keys, values)
+    }
+
+    /// Whether an entry has the key. Nothing is missed.
+    ///
+    /// # Panics
+    ///
+    /// As [`get`](Self::get).
+    ///
+    /// ```
+    /// # let mut bytes = [0; 104];
+    /// # fieldmap::build(&mut bytes, 0, &[1, 5, 9], &[10, 50, 90])?;
+    /// assert!(!fieldmap::Certified::certify(&bytes)?.contains_key(8));
+    /// # Ok::<(), fieldmap::Refusal>(())
+    /// ```
+    #[must_use]
+    pub fn contains_key(self, key: u64) -> bool {
+        self.archive.contains_key(key)
+    }
+
+    /// Writes keys and values in ascending order of the keys until the shorter list is full.
+    ///
+    /// # Panics
+    ///
+    /// As [`get`](Self::get).
+    ///
+    /// ```
+    /// # let mut bytes = [0; 104];
+    /// # fieldmap::build(&mut bytes, 0, &[1, 5, 9], &[10, 50, 90])?;
+    /// let (mut keys, mut values) = ([0; 2], [0; 2]);
+    /// let walked = fieldmap::Certified::certify(&bytes)?.walk(&mut keys, &mut values);
+    /// assert_eq!((walked.written, walked.count, keys), (2, 3, [1, 5]));
+    /// # Ok::<(), fieldmap::Refusal>(())
+    /// ```
+    pub fn walk(self, keys: &mut [u64], values: &mut [u64]) -> Walked {
+        self.archive.walk(keys, values)
+    }
+
+    /// Writes keys and values of the entries that meet both bounds until the shorter list is full, and counts them all. Where the bounds cross,
+    /// nothing matches.
+    ///
+    /// # Panics
+    ///
+    /// As [`get`](Self::get).
+    ///
+    /// ```
+    /// # let mut bytes = [0; 104];
+    /// # fieldmap::build(&mut bytes, 0, &[1, 5, 9], &[10, 50, 90])?;
+    /// let (mut keys, mut values) = ([0; 1], [0; 1]);
+    /// let matched = fieldmap::Certified::certify(&bytes)?.range(5.., &mut keys, &mut values);
+    /// assert_eq!((matched.written, matched.matching, values), (1, 2, [50]));
+    /// # Ok::<(), fieldmap::Refusal>(())
+    /// ```
+    pub fn range(
+        self,
+        bounds: impl RangeBounds<u64>,
+        keys: &mut [u64],
+        values: &mut [u64],
+    ) -> Matched {
+        crate::range(self.bytes(), bounds, keys, values).expect(PASSED)
+    }
+
+    /// The points of one eye of one examination with x in a range of degrees. [`column`](crate::column()) says what a range on both sides of 0
+    /// gives.
+    ///
+    /// # Errors
+    ///
+    /// 18, where the examination or the eye does not fit its field.
+    ///
+    /// ```
+    /// use fieldmap::{Certified, Key};
+    ///
+    /// let key = Key { examination: 1, eye: Key::LEFT, x: -15, y: 3, presentation: 0 };
+    /// let mut bytes = [0; 104];
+    /// fieldmap::build(&mut bytes, 0, &[key.pack()?], &[9])?;
+    /// let certified = Certified::certify(&bytes)?;
+    /// let (mut keys, mut values) = ([0; 1], [0; 1]);
+    /// let matched = certified.column(1, Key::LEFT, -20..=-10, &mut keys, &mut values)?;
+    /// assert_eq!((matched.written, Key::from(keys[0])), (1, key));
+    /// # Ok::<(), fieldmap::Refusal>(())
+    /// ```
+    pub fn column(
+        self,
+        examination: u32,
+        eye: u8,
+        x: impl RangeBounds<i8>,
+        keys: &mut [u64],
+        values: &mut [u64],
+    ) -> Result<Matched, Refusal> {
+        crate::column(self.bytes(), examination, eye, x, keys, values)
+    }
+}
+
+impl<'a> TryFrom<&'a [u8]> for Certified<'a> {
+    type Error = Refusal;
+
+    /// As [`Certified::certify`].
+    fn try_from(bytes: &'a [u8]) -> Result<Self, Refusal> {
+        Self::certify(bytes)
+    }
+}
+
+impl<'a> TryFrom<Archive<'a>> for Certified<'a> {
+    type Error = Refusal;
+
+    /// As [`Archive::certify`].
+    fn try_from(archive: Archive<'a>) -> Result<Self, Refusal> {
+        archive.certify()
+    }
+}
+
+impl AsRef<[u8]> for Certified<'_> {
+    fn as_ref(&self) -> &[u8] {
+        self.archive.bytes()
+    }
+}

@@ -1,0 +1,95 @@
+//! The refusals and the limits, against those of `include/fieldmap.h`.
+
+use crate::repository;
+use fieldmap::{NoSuchRefusal, Refusal};
+
+fn header() -> String {
+    String::from_utf8(repository::bytes("include/fieldmap.h")).unwrap()
+}
+
+/// What stands between two texts, for each line that has both.
+fn between<'a>(text: &'a str, before: &str, after: &str) -> Vec<(&'a str, &'a str)> {
+    let cut = |line: &'a str| {
+        let (name, rest) = line.trim_start().strip_prefix(before)?.split_once(after)?;
+        Some((name, rest))
+    };
+    text.lines().filter_map(cut).collect()
+}
+
+/// The name of a refusal as C has it.
+fn name_in_c(refusal: Refusal) -> String {
+    let mut name = String::new();
+    for letter in format!("{refusal:?}").chars() {
+        if letter.is_ascii_uppercase() && !name.is_empty() {
+            name.push('_');
+        }
+        name.push(letter.to_ascii_uppercase());
+    }
+    name
+}
+
+#[test]
+fn texts() {
+    let header = header();
+    let texts = between(&header, "case -FIELDMAP_", ": return ");
+    assert_eq!(texts.len(), Refusal::ALL.len());
+    for ((name, text), refusal) in texts.into_iter().zip(Refusal::ALL) {
+        assert_eq!(name, name_in_c(refusal));
+        assert_eq!(text, format!("\"{}\";", refusal.text()));
+    }
+}
+
+#[test]
+fn numbers() {
+    let header = header();
+    let (_, rest) = header.split_once("/* The refusals").unwrap();
+    let (list, _) = rest.split_once("};").unwrap();
+    let numbers = between(list, "FIELDMAP_", " = ");
+    assert_eq!(numbers.len(), Refusal::ALL.len());
+    for ((name, number), refusal) in numbers.into_iter().zip(Refusal::ALL) {
+        assert_eq!(name, name_in_c(refusal));
+        let digits = number.split(|letter: char| !letter.is_ascii_digit());
+        assert_eq!(
+            digits.into_iter().next(),
+            Some(&*refusal.number().to_string())
+        );
+    }
+}
+
+#[test]
+fn limits() {
+    let header = header();
+    let limits = between(&header, "#define FIELDMAP_", " ");
+    let limit = |name: &str| {
+        let (_, rest) = limits.iter().find(|(other, _)| *other == name).unwrap();
+        rest.split_whitespace().next().unwrap().to_string()
+    };
+    assert_eq!(
+        limit("LONGEST_ARCHIVE"),
+        fieldmap::LONGEST_ARCHIVE.to_string()
+    );
+    assert_eq!(limit("MOST_NESTED"), fieldmap::MOST_NESTED.to_string());
+    assert_eq!(limit("MOST_IN_LEAF"), fieldmap::MOST_IN_LEAF.to_string());
+    assert_eq!(limit("MOST_ENTRIES"), fieldmap::MOST_ENTRIES.to_string());
+    assert_eq!(
+        limit("LONGEST_HEADER"),
+        fieldmap::LONGEST_HEADER.to_string()
+    );
+    assert_eq!(
+        limit("VERSION"),
+        format!("\"{}\"", env!("CARGO_PKG_VERSION"))
+    );
+}
+
+#[test]
+fn refusals_by_number() {
+    for refusal in Refusal::ALL {
+        assert_eq!(Refusal::try_from(refusal.number()), Ok(refusal));
+        assert_eq!(u8::from(refusal), refusal.number());
+    }
+    for number in [0, 19, u8::MAX] {
+        assert_eq!(Refusal::try_from(number), Err(NoSuchRefusal(number)));
+    }
+    let error: Box<dyn std::error::Error> = Box::new(NoSuchRefusal(19));
+    assert_eq!(error.to_string(), "no refusal has the number 19");
+}

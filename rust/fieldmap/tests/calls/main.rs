@@ -1,0 +1,13 @@
+//! The calls, against document 01, against `include/fieldmap.h` and against each other.
+
+mod archives;
+mod by_hand;
+mod columns;
+mod document_01;
+mod header;
+mod keys;
+mod open_archives;
+#[cfg(feature = "alloc")]
+mod owned;
+mod refusals;
+mod repository;
