@@ -1,10 +1,13 @@
-//! `list FILE` prints the list of an archive: `certified`, or `open` if it is only accepted, and the count; then key and value a line. A
-//! refused archive prints `refused` and the number, and the program ends with 1.
+//! `list FILE` prints the list of an archive: `certified`, or `open` if it is only accepted, and the count; then key and value a line.
+//!
+//! Why an archive is open goes to standard error. A refused archive prints its refusal, and the program ends with 1, as it does where the file
+//! cannot be read. A reader that closes the pipe early ends the list.
 
+use std::io::{self, ErrorKind, Write};
 use std::process::ExitCode;
 use std::{env, fs};
 
-use fieldmap::Refusal;
+use fieldmap::Archive;
 
 fn main() -> ExitCode {
     let Some(file) = env::args_os().nth(1) else {
@@ -15,32 +18,36 @@ fn main() -> ExitCode {
         Ok(bytes) => bytes,
         Err(error) => {
             eprintln!("{}: {error}", file.to_string_lossy());
-            return ExitCode::from(2);
+            return ExitCode::FAILURE;
         }
     };
-    match list(&bytes) {
-        Ok(text) => {
-            print!("{text}");
-            ExitCode::SUCCESS
-        }
-        Err(refusal) => {
-            println!("refused {}", refusal.number());
+    let (text, code) = match Archive::check(&bytes) {
+        Ok(archive) => (list(archive), ExitCode::SUCCESS),
+        Err(refusal) => (format!("{refusal}\n"), ExitCode::FAILURE),
+    };
+    match io::stdout().write_all(text.as_bytes()) {
+        Err(error) if error.kind() != ErrorKind::BrokenPipe => {
+            eprintln!("standard output: {error}");
             ExitCode::FAILURE
         }
+        _ => code,
     }
 }
 
-fn list(bytes: &[u8]) -> Result<String, Refusal> {
-    let count = fieldmap::check(bytes)?;
+fn list(archive: Archive) -> String {
+    let count = archive.count();
     let (mut keys, mut values) = (vec![0; count], vec![0; count]);
-    fieldmap::walk(bytes, &mut keys, &mut values)?;
-    let kind = match fieldmap::certify(bytes) {
+    let walked = archive.walk(&mut keys, &mut values);
+    let kind = match archive.certify() {
         Ok(_) => "certified",
-        Err(_) => "open",
+        Err(refusal) => {
+            eprintln!("not certified: {refusal}");
+            "open"
+        }
     };
     let mut text = format!("{kind} {count}\n");
-    for (key, value) in keys.iter().zip(&values) {
+    for (key, value) in keys.iter().zip(&values).take(walked.written) {
         text.push_str(&format!("{key} {value}\n"));
     }
-    Ok(text)
+    text
 }
