@@ -212,6 +212,13 @@ impl<'a> TryFrom<&'a [u8]> for Archive<'a> {
     type Error = Refusal;
 
     /// As [`Archive::check`].
+    ///
+    /// ```
+    /// let bytes: &[u8] = &[1, 0, 0, 0, 0, 0, 0, 0];
+    /// let archive: fieldmap::Archive = bytes.try_into()?;
+    /// assert!(archive.is_empty());
+    /// # Ok::<(), fieldmap::Refusal>(())
+    /// ```
     fn try_from(bytes: &'a [u8]) -> Result<Self, Refusal> {
         Self::check(bytes)
     }

@@ -253,6 +253,13 @@ impl<'a> TryFrom<&'a [u8]> for Certified<'a> {
     type Error = Refusal;
 
     /// As [`Certified::certify`].
+    ///
+    /// ```
+    /// let bytes: &[u8] = &[1, 0, 0, 0, 0, 0, 0, 0];
+    /// let certified: fieldmap::Certified = bytes.try_into()?;
+    /// assert!(certified.is_empty());
+    /// # Ok::<(), fieldmap::Refusal>(())
+    /// ```
     fn try_from(bytes: &'a [u8]) -> Result<Self, Refusal> {
         Self::certify(bytes)
     }

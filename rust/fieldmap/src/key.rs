@@ -105,6 +105,10 @@ impl PartialOrd for Key {
 
 impl From<u64> for Key {
     /// The fields of a key, as [`Key::unpack`] gives them.
+    ///
+    /// ```
+    /// assert_eq!(fieldmap::Key::from(1_642_850_156_546).x, -3);
+    /// ```
     fn from(key: u64) -> Self {
         Self::unpack(key)
     }
@@ -114,6 +118,12 @@ impl TryFrom<Key> for u64 {
     type Error = Refusal;
 
     /// The key of the fields, as [`Key::pack`] gives it.
+    ///
+    /// ```
+    /// use fieldmap::Key;
+    ///
+    /// assert_eq!(u64::try_from(Key { examination: 1, ..Key::default() }), Ok(1 << 40));
+    /// ```
     fn try_from(key: Key) -> Result<Self, Refusal> {
         key.pack()
     }

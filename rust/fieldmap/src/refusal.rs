@@ -158,8 +158,9 @@ impl core::error::Error for NoSuchRefusal {}
 
 /// An answer as the library codes it: a number from 0 on, or minus the refusal's number, -1 to -18.
 pub(crate) fn answer(code: i64) -> Result<usize, Refusal> {
-    match usize::try_from(code) {
-        Ok(number) => Ok(number),
-        Err(_) => Err(Refusal::ALL[(-1 - code) as usize]),
+    if code < 0 {
+        Err(Refusal::ALL[(-1 - code) as usize])
+    } else {
+        Ok(code as usize)
     }
 }

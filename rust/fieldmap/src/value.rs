@@ -60,6 +60,9 @@ impl Value {
 }
 
 impl From<u64> for Value {
+    /// ```
+    /// assert_eq!(fieldmap::Value::from(1 << 53).threshold(), 1);
+    /// ```
     fn from(value: u64) -> Self {
         Self(value)
     }
