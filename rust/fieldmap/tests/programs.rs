@@ -1,9 +1,10 @@
-//! The example programs, run as a user runs them. `cargo test` builds them beside the tests.
+//! The example programs, run as a user runs them.
 
+use std::fs;
 use std::io::{BufRead, BufReader, Read};
 use std::path::{Path, PathBuf};
 use std::process::{Command, Output, Stdio};
-use std::{env, fs};
+use std::sync::OnceLock;
 
 use fieldmap::{Key, Value};
 
@@ -14,13 +15,23 @@ fn path(name: &str) -> PathBuf {
         .join(name)
 }
 
+/// The folder of the example programs. They are built here, since cargo builds them before a test only where every target is asked for.
+fn programs() -> &'static Path {
+    static FOLDER: OnceLock<PathBuf> = OnceLock::new();
+    FOLDER.get_or_init(|| {
+        let target = Path::new(env!("CARGO_TARGET_TMPDIR")).join("programs");
+        let mut cargo = Command::new(env!("CARGO"));
+        cargo.args(["build", "--offline", "--quiet", "--examples"]);
+        cargo.arg("--target-dir").arg(&target);
+        cargo.current_dir(env!("CARGO_MANIFEST_DIR"));
+        assert!(cargo.status().unwrap().success());
+        target.join("debug/examples")
+    })
+}
+
 /// A command that runs an example program.
 fn program(name: &str) -> Command {
-    let test = env::current_exe().expect("this test has a path");
-    let folder = test.ancestors().nth(2).expect("it stands in deps");
-    let program = folder.join("examples").join(name);
-    assert!(program.is_file(), "cargo build --examples makes {name}");
-    Command::new(program)
+    Command::new(programs().join(name))
 }
 
 /// The exit status, standard output and standard error.
