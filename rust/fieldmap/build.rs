@@ -2,10 +2,13 @@
 //! else from `target/staticlib` of the repository.
 //!
 //! Where the library is not there, this only warns: the crate can be checked and documented without it, and a program that uses it does not
-//! link.
+//! link. The same holds of a library of version 0.1, whose answers mean something else.
 
-use std::env;
 use std::path::{Path, PathBuf};
+use std::{env, fs};
+
+/// A call that the library has from version 0.2 on, as it has signed answers.
+const SIGNED: &[u8] = b"fieldmap_build_length";
 
 fn main() {
     println!("cargo::rerun-if-changed=build.rs");
@@ -13,16 +16,19 @@ fn main() {
     let folder = folder();
     let library = folder.join("libexports.a");
     println!("cargo::rerun-if-changed={}", library.display());
-    if !library.is_file() {
-        warn(&library);
+    match fs::read(&library) {
+        Err(_) => warn(&library, "is not there"),
+        Ok(bytes) if !bytes.windows(SIGNED.len()).any(|part| part == SIGNED) => {
+            warn(&library, "is of version 0.1")
+        }
+        Ok(_) => println!("cargo::rustc-link-search=native={}", folder.display()),
     }
-    println!("cargo::rustc-link-search=native={}", folder.display());
     println!("cargo::rustc-link-lib=static:-bundle=exports");
 }
 
-fn warn(library: &Path) {
+fn warn(library: &Path, why: &str) {
     let path = library.display();
-    println!("cargo::warning={path} is not there: cargo check and cargo doc work, programs and tests do not link.");
+    println!("cargo::warning={path} {why}: cargo check and cargo doc work, programs and tests do not link.");
     println!("cargo::warning=`rt staticlib exports`, in the repository's folder, writes target/staticlib/libexports.a.");
     println!(
         "cargo::warning=The environment variable FIELDMAP_LIB names another folder that holds it."
