@@ -1,0 +1,161 @@
+//! Generated archives, certified, open and damaged: what is let through, and what rkyv's readers give of it.
+
+mod aligned;
+
+use std::collections::BTreeMap;
+use std::ops::{Bound, ControlFlow, RangeBounds};
+
+use compare::model::{self, crosses};
+use compare::trees::{self, Random};
+use compare::{ours, rkyv_map};
+use fieldmap_rkyv::{accepted, certified, Map, Refused};
+use rkyv::rancor::Error;
+use rkyv::rend::u64_le;
+
+type Entries = Vec<(u64, u64)>;
+
+fn native((key, value): (&u64_le, &u64_le)) -> (u64, u64) {
+    (key.to_native(), value.to_native())
+}
+
+/// The entries of the proved walk.
+fn walk(bytes: &[u8]) -> Entries {
+    let count = ours::check(bytes).unwrap() as usize;
+    let (mut keys, mut values) = (vec![0; count], vec![0; count]);
+    let walked = ours::walk(bytes, &mut keys, &mut values);
+    assert_eq!(walked, Ok((count as u32, count as u32)));
+    keys.into_iter().zip(values).collect()
+}
+
+/// What holds of every map that is let through: all that iterates gives the entries of the walk, and `get` what the proved lookup gives.
+fn holds_accepted(bytes: &[u8], map: &Map, random: &mut Random) -> Entries {
+    let entries = walk(bytes);
+    assert_eq!(map.len(), entries.len());
+    assert_eq!(map.iter().map(native).collect::<Entries>(), entries);
+    assert!(map.keys().zip(map.values()).map(native).eq(entries.clone()));
+    let mut visited = Entries::new();
+    map.visit(|key, value| {
+        visited.push(native((key, value)));
+        ControlFlow::<()>::Continue(())
+    });
+    assert_eq!(visited, entries);
+    let keys: Vec<u64> = entries.iter().map(|entry| entry.0).collect();
+    for key in trees::sought(&keys, 8, random) {
+        let value = map.get(&u64_le::from_native(key));
+        let found = ours::lookup(bytes, key).unwrap();
+        assert_eq!(value.map(|value| value.to_native()), found.map(|it| it.1));
+    }
+    // Of any map a range stays in the bytes and gives no more than the entries.
+    let (lower, upper) = trees::bounds(&keys, random);
+    assert!(range(map, lower, upper).len() <= entries.len());
+    entries
+}
+
+fn range(map: &Map, lower: Bound<u64>, upper: Bound<u64>) -> Entries {
+    let bounds = (lower.map(u64_le::from), upper.map(u64_le::from));
+    map.range(bounds).map(native).collect()
+}
+
+/// What holds of a certified map beyond it.
+fn holds_certified(map: &Map, entries: &Entries, random: &mut Random) {
+    assert!(entries.windows(2).all(|pair| pair[0].0 < pair[1].0));
+    for (key, value) in entries {
+        assert_eq!(map.get(&(*key).into()).copied(), Some((*value).into()));
+    }
+    let keys: Vec<u64> = entries.iter().map(|entry| entry.0).collect();
+    for _ in 0..4 {
+        let (lower, upper) = trees::bounds(&keys, random);
+        if !crosses(lower, upper) {
+            let meets = |entry: &&(u64, u64)| (lower, upper).contains(&entry.0);
+            let matching: Entries = entries.iter().filter(meets).copied().collect();
+            assert_eq!(range(map, lower, upper), matching);
+        }
+    }
+}
+
+/// The number of a refusal that is not of the address.
+fn refused(answer: Result<&Map, Refused>) -> Option<u8> {
+    match answer.unwrap_err() {
+        Refused::Archive(refusal) => Some(refusal.number()),
+        Refused::Unaligned => None,
+    }
+}
+
+/// What `certified` and `accepted` give of the archive of a seed, whose fault is known from the second reading of document 01. What is let
+/// through, rkyv's own access accepts.
+fn holds(bytes: &[u8], fault: Option<u8>, random: &mut Random) {
+    if fault.is_some() {
+        assert_eq!(refused(certified(bytes)), fault);
+    }
+    if !matches!(fault, None | Some(9)) {
+        assert_eq!(refused(accepted(bytes)), fault);
+        return;
+    }
+    let map = accepted(bytes).unwrap();
+    let entries = holds_accepted(bytes, map, random);
+    let theirs = rkyv::access::<Map, Error>(bytes).unwrap();
+    assert!(std::ptr::eq(map, theirs));
+    if fault.is_none() {
+        let certified = certified(bytes).unwrap();
+        assert!(std::ptr::eq(map, certified));
+        holds_certified(map, &entries, random);
+    }
+}
+
+/// Archives of every outcome, each some hundred times.
+#[test]
+fn generated_archives() {
+    let mut outcomes = BTreeMap::new();
+    for seed in 0..6_000 {
+        let bytes = aligned::copy(&trees::archive(seed));
+        let fault = model::certify(&bytes).err();
+        holds(&bytes, fault, &mut Random::new(seed));
+        *outcomes.entry(fault).or_insert(0) += 1;
+    }
+    for fault in [
+        None,
+        Some(2),
+        Some(3),
+        Some(4),
+        Some(5),
+        Some(6),
+        Some(7),
+        Some(8),
+        Some(9),
+    ] {
+        assert!(outcomes[&fault] > 100, "{outcomes:?}");
+    }
+}
+
+/// An archive that is too long, as rkyv would take it.
+#[test]
+fn too_long() {
+    let mut bytes = vec![0; model::LONGEST];
+    bytes.extend(rkyv_map::build(&[], &[7], &[9]));
+    let bytes = aligned::copy(&bytes);
+    assert!(rkyv::access::<Map, Error>(&bytes).is_ok());
+    assert_eq!(refused(certified(&bytes)), Some(1));
+    assert_eq!(refused(accepted(&bytes)), Some(1));
+}
+
+/// What rkyv writes of a `BTreeMap` is certified, and the map is the same.
+#[test]
+fn written_by_rkyv() {
+    for size in [0, 1, 5, 6, 35, 36, 1_000, 40_000] {
+        let written: BTreeMap<u64, u64> = (0..size).map(|key| (key * key, !key)).collect();
+        let bytes = rkyv::to_bytes::<Error>(&written).unwrap();
+        let map = certified(&bytes).unwrap();
+        assert!(map.iter().map(native).eq(written.clone()));
+        let entries: Entries = written.into_iter().collect();
+        holds_certified(map, &entries, &mut Random::new(size));
+    }
+}
+
+/// Where bounds cross, rkyv's range runs on, also of a certified map.
+#[test]
+fn crossed_bounds() {
+    let bytes = aligned::copy(&rkyv_map::build(&[], &[1, 2], &[10, 20]));
+    let map = certified(&bytes).unwrap();
+    let entries = range(map, Bound::Included(2), Bound::Included(0));
+    assert_eq!(entries, [(2, 20)]);
+}
