@@ -1,0 +1,96 @@
+/*
+ * list FILE prints what an archive is, and its points.
+ *
+ * The first line is `certified N`, `open N` where the archive is accepted and not certified, or `refused N: why`. Then comes a line a point, in
+ * the order of the walk: the examination, the eye, x and y in degrees, the presentation, whether it was seen, and the threshold.
+ *
+ * The program ends with 0, with 1 where the archive is refused, and with 2 where the file cannot be read or the text not written.
+ *
+ * It compiles as C99 and as C++17.
+ */
+#include <errno.h>
+#include <inttypes.h>
+#include <stdio.h>
+#include <stdlib.h>
+#include <string.h>
+
+#include "fieldmap.h"
+
+enum { LISTED = 0, REFUSED = 1, FAILED = 2 };
+
+/* Says on standard error what went wrong, and with what. */
+static int failed(const char *what)
+{
+    fprintf(stderr, "list: %s: %s\n", what, strerror(errno));
+    return FAILED;
+}
+
+static void print_point(uint64_t key, uint64_t value)
+{
+    uint32_t examination, presentation;
+    uint8_t eye;
+    int8_t x, y;
+    fieldmap_unpack(key, &examination, &eye, &x, &y, &presentation);
+    int tenths = (int)fieldmap_threshold(value);
+    printf("%" PRIu32 " %s %d %d %" PRIu32 " %s %d.%d dB\n", examination, eye == 0 ? "right" : "left", x, y, presentation,
+           fieldmap_seen(value) ? "seen" : "unseen", tenths / 10, tenths % 10);
+}
+
+static int refused(int64_t answer)
+{
+    printf("refused %" PRId64 ": %s\n", -answer, fieldmap_refusal_text(answer));
+    return REFUSED;
+}
+
+/* Prints an archive whose entries fit lists of so many places. */
+static int print_list(const uint8_t *archive, size_t length, int certified, uint64_t *keys, uint64_t *values, size_t room)
+{
+    uint64_t count;
+    int64_t written = fieldmap_walk(archive, length, keys, room, values, room, &count);
+    if (written < 0)
+        return refused(written);
+    printf("%s %" PRIu64 "\n", certified ? "certified" : "open", count);
+    for (int64_t i = 0; i < written; i++)
+        print_point(keys[i], values[i]);
+    return LISTED;
+}
+
+static int list(const uint8_t *archive, size_t length)
+{
+    int64_t certified = fieldmap_certify(archive, length);
+    int64_t count = certified >= 0 ? certified : fieldmap_check(archive, length);
+    if (count < 0)
+        return refused(count);
+
+    /* malloc may give a null pointer for no entries; as an empty list it may pass. */
+    size_t room = (size_t)count;
+    uint64_t *keys = (uint64_t *)malloc(room * sizeof *keys);
+    uint64_t *values = (uint64_t *)malloc(room * sizeof *values);
+    int status;
+    if (room > 0 && (keys == NULL || values == NULL))
+        status = failed("its entries");
+    else
+        status = print_list(archive, length, certified >= 0, keys, values, room);
+    free(keys);
+    free(values);
+    return status;
+}
+
+int main(int argc, char **argv)
+{
+    /* One byte more than the longest archive, so that a longer file is refused as one. */
+    static uint8_t archive[FIELDMAP_LONGEST_ARCHIVE + 1];
+    if (argc != 2) {
+        fprintf(stderr, "usage: list FILE\n");
+        return FAILED;
+    }
+    FILE *file = fopen(argv[1], "rb");
+    if (file == NULL)
+        return failed(argv[1]);
+    size_t length = fread(archive, 1, sizeof archive, file);
+    if (ferror(file))
+        return failed(argv[1]);
+    fclose(file);
+    int status = list(archive, length);
+    return fflush(stdout) == 0 ? status : failed("standard output");
+}

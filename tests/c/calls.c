@@ -1,0 +1,264 @@
+/*
+ * Uses every call of fieldmap.h and holds what it gives against document 01. Prints `every call answers as it should` and ends with 0, or names
+ * the first line that does not hold and ends with 1. It compiles as C99 and as C++17.
+ */
+#include <stdint.h>
+#include <stdio.h>
+#include <stdlib.h>
+#include <string.h>
+
+#include "fieldmap.h"
+
+#define EXPECT(holds)                                                                                                                          \
+    do {                                                                                                                                       \
+        if (!(holds)) {                                                                                                                        \
+            printf("%s:%d: %s\n", __FILE__, __LINE__, #holds);                                                                                 \
+            exit(1);                                                                                                                           \
+        }                                                                                                                                      \
+    } while (0)
+
+/* A call is refused, also where its answer is cut to an int. */
+#define REFUSED(call, why)                                                                                                                     \
+    do {                                                                                                                                       \
+        int64_t refusal = (call);                                                                                                              \
+        EXPECT(refusal == -(why) && (int)refusal == -(why));                                                                                   \
+    } while (0)
+
+/* What a place holds before a call. */
+#define BEFORE UINT64_C(0x5555555555555555)
+
+enum { ENTRIES = 36, ROOM = 40, LENGTH = 808 };
+
+static uint64_t keys[ROOM], values[ROOM];
+
+/* A stored number between two others, which must stay. */
+struct stored {
+    uint64_t before, number, after;
+};
+
+static const struct stored fresh = {BEFORE, BEFORE, BEFORE};
+
+static int kept(const struct stored *s)
+{
+    return s->before == BEFORE && s->after == BEFORE;
+}
+
+static void clear_lists(void)
+{
+    for (size_t i = 0; i < ROOM; i++)
+        keys[i] = values[i] = BEFORE;
+}
+
+/* The first n keys are those from `first` on in steps of 1, each value is ten times its key, and the rest is as it was. */
+static int holds_list(size_t n, uint64_t first)
+{
+    for (size_t i = 0; i < ROOM; i++) {
+        uint64_t key = i < n ? first + i : BEFORE;
+        if (keys[i] != key || values[i] != (i < n ? 10 * key : BEFORE))
+            return 0;
+    }
+    return 1;
+}
+
+/* The archive of the keys 1 to 36. */
+static void build(uint8_t *archive, size_t length)
+{
+    uint64_t given_keys[ENTRIES], given_values[ENTRIES];
+    const uint64_t falling[2] = {2, 1};
+    for (size_t i = 0; i < ENTRIES; i++) {
+        given_keys[i] = i + 1;
+        given_values[i] = 10 * (i + 1);
+    }
+    uint8_t first = archive[0];
+    REFUSED(fieldmap_build(archive, length, 0, given_keys, ENTRIES, given_values, ENTRIES - 1), FIELDMAP_ITERATOR_LENGTH_MISMATCH);
+    REFUSED(fieldmap_build(archive, length, 0, falling, 2, falling, 2), FIELDMAP_GIVEN_KEYS_NOT_ASCENDING);
+    REFUSED(fieldmap_build(archive, length, FIELDMAP_LONGEST_HEADER + 1, given_keys, 1, given_values, 1), FIELDMAP_HEADER_TOO_LONG);
+    REFUSED(fieldmap_build(archive, LENGTH - 1, 0, given_keys, ENTRIES, given_values, ENTRIES), FIELDMAP_OUTPUT_TOO_SHORT);
+    EXPECT(archive[0] == first);
+    EXPECT(fieldmap_build(archive, length, 0, given_keys, ENTRIES, given_values, ENTRIES) == LENGTH);
+    EXPECT(archive[LENGTH] == 0xaa);
+}
+
+static void lengths(void)
+{
+    EXPECT(fieldmap_build_length(0, 0) == 8 && fieldmap_build_length(ENTRIES, 0) == LENGTH && fieldmap_build_length(1, 5) == 112);
+    EXPECT(fieldmap_build_length(FIELDMAP_MOST_ENTRIES, FIELDMAP_LONGEST_HEADER) <= FIELDMAP_LONGEST_ARCHIVE);
+    REFUSED(fieldmap_build_length(FIELDMAP_MOST_ENTRIES + 1, 0), FIELDMAP_TOO_MANY_ENTRIES);
+    REFUSED(fieldmap_build_length(SIZE_MAX, SIZE_MAX), FIELDMAP_TOO_MANY_ENTRIES);
+    REFUSED(fieldmap_build_length(0, FIELDMAP_LONGEST_HEADER + 1), FIELDMAP_HEADER_TOO_LONG);
+    REFUSED(fieldmap_build_length(0, SIZE_MAX), FIELDMAP_HEADER_TOO_LONG);
+}
+
+static void read_one(const uint8_t *archive)
+{
+    struct stored value = fresh, position = fresh, start = fresh;
+    EXPECT(fieldmap_check(archive, LENGTH) == ENTRIES);
+    EXPECT(fieldmap_certify(archive, LENGTH) == ENTRIES);
+    REFUSED(fieldmap_check(archive, 7), FIELDMAP_INVALID_SUBTREE_POINTER);
+    REFUSED(fieldmap_certify(archive, 7), FIELDMAP_INVALID_SUBTREE_POINTER);
+    EXPECT(fieldmap_lookup(archive, LENGTH, 37, &value.number, &position.number) == 0);
+    REFUSED(fieldmap_lookup(archive, 9, 36, &value.number, &position.number), FIELDMAP_UNALIGNED_POINTER);
+    EXPECT(value.number == BEFORE && position.number == BEFORE);
+    EXPECT(fieldmap_lookup(archive, LENGTH, 36, &value.number, &position.number) == 1);
+    EXPECT(value.number == 360 && memcmp(archive + position.number, &value.number, 8) == 0);
+    EXPECT(kept(&value) && kept(&position));
+
+    EXPECT(fieldmap_lookup_bytes(archive, LENGTH, 37, &start.number) == 0);
+    REFUSED(fieldmap_lookup_bytes(archive, 9, 36, &start.number), FIELDMAP_UNALIGNED_POINTER);
+    EXPECT(start.number == BEFORE);
+    EXPECT(fieldmap_lookup_bytes(archive, LENGTH, 36, &start.number) == 8 && start.number == position.number);
+    EXPECT(kept(&start));
+}
+
+static void read_lists(const uint8_t *archive)
+{
+    struct stored number = fresh;
+    uint64_t sought[3] = {36, 0, 5};
+    clear_lists();
+    REFUSED(fieldmap_lookup_many(archive, 9, sought, 3, values, ROOM), FIELDMAP_UNALIGNED_POINTER);
+    EXPECT(fieldmap_lookup_many(archive, LENGTH, sought, 3, values, ROOM) == 2);
+    EXPECT(values[0] == 360 && values[1] == BEFORE && values[2] == 50 && values[3] == BEFORE);
+
+    clear_lists();
+    REFUSED(fieldmap_walk(archive, 9, keys, ROOM, values, ROOM, &number.number), FIELDMAP_UNALIGNED_POINTER);
+    EXPECT(holds_list(0, 0) && number.number == BEFORE);
+    EXPECT(fieldmap_walk(archive, LENGTH, keys, 3, values, ROOM, &number.number) == 3);
+    EXPECT(holds_list(3, 1) && number.number == ENTRIES);
+
+    clear_lists();
+    REFUSED(fieldmap_range(archive, 9, FIELDMAP_EXCLUDED, 3, FIELDMAP_INCLUDED, 7, keys, ROOM, values, ROOM, &number.number),
+            FIELDMAP_UNALIGNED_POINTER);
+    EXPECT(fieldmap_range(archive, LENGTH, FIELDMAP_EXCLUDED, 3, FIELDMAP_INCLUDED, 7, keys, ROOM, values, ROOM, &number.number) == 4);
+    EXPECT(holds_list(4, 4) && number.number == 4);
+    clear_lists();
+    EXPECT(fieldmap_range(archive, LENGTH, FIELDMAP_UNBOUNDED, 0, FIELDMAP_EXCLUDED, 30, keys, 2, values, 1, &number.number) == 1);
+    EXPECT(holds_list(1, 1) && number.number == 29);
+    EXPECT(fieldmap_range(archive, LENGTH, 255, 9, 3, 0, keys, ROOM, values, ROOM, &number.number) == ENTRIES);
+    EXPECT(holds_list(ENTRIES, 1) && number.number == ENTRIES && kept(&number));
+}
+
+/* Points of the left eye at x from -1 to 1. */
+static void read_column(void)
+{
+    uint8_t archive[104];
+    uint64_t points[3], found[3] = {BEFORE, BEFORE, BEFORE}, theirs[3];
+    struct stored matching = fresh;
+    const int8_t x[3] = {0, 1, -1};
+    for (size_t i = 0; i < 3; i++)
+        EXPECT(fieldmap_pack(4, 1, x[i], -5, 6, &points[i]) == 0);
+    EXPECT(fieldmap_build(archive, 104, 0, points, 3, points, 3) == 104);
+    EXPECT(fieldmap_column(archive, 104, 4, 1, -1, -1, found, 3, theirs, 3, &matching.number) == 1);
+    EXPECT(found[0] == points[2] && theirs[0] == points[2] && found[1] == BEFORE && matching.number == 1);
+    EXPECT(fieldmap_column(archive, 104, 4, 1, 0, 1, found, 3, theirs, 3, &matching.number) == 2 && matching.number == 2);
+    REFUSED(fieldmap_column(archive, 104, 4, 2, 0, 1, found, 3, theirs, 3, &matching.number), FIELDMAP_KEY_FIELD_OVERFLOW);
+    EXPECT(matching.number == 2 && kept(&matching));
+}
+
+/* Every list of every call, empty and passed as a null pointer. */
+static void null_lists(const uint8_t *archive)
+{
+    uint64_t one = 1, n = BEFORE;
+    uint8_t out[8];
+    REFUSED(fieldmap_check(NULL, 0), FIELDMAP_INVALID_SUBTREE_POINTER);
+    REFUSED(fieldmap_certify(NULL, 0), FIELDMAP_INVALID_SUBTREE_POINTER);
+    REFUSED(fieldmap_lookup(NULL, 0, 1, &one, &n), FIELDMAP_INVALID_SUBTREE_POINTER);
+    REFUSED(fieldmap_lookup_bytes(NULL, 0, 1, &n), FIELDMAP_INVALID_SUBTREE_POINTER);
+    REFUSED(fieldmap_lookup_many(NULL, 0, NULL, 0, NULL, 0), FIELDMAP_INVALID_SUBTREE_POINTER);
+    REFUSED(fieldmap_walk(NULL, 0, NULL, 0, NULL, 0, &n), FIELDMAP_INVALID_SUBTREE_POINTER);
+    REFUSED(fieldmap_range(NULL, 0, 2, 0, 2, 0, NULL, 0, NULL, 0, &n), FIELDMAP_INVALID_SUBTREE_POINTER);
+    REFUSED(fieldmap_column(NULL, 0, 0, 0, 0, 0, NULL, 0, NULL, 0, &n), FIELDMAP_INVALID_SUBTREE_POINTER);
+    EXPECT(one == 1 && n == BEFORE);
+
+    clear_lists();
+    EXPECT(fieldmap_lookup_many(archive, LENGTH, NULL, 0, NULL, 0) == 0);
+    EXPECT(fieldmap_lookup_many(archive, LENGTH, &one, 1, NULL, 0) == 0);
+    EXPECT(fieldmap_lookup_many(archive, LENGTH, NULL, 0, values, ROOM) == 0);
+    EXPECT(fieldmap_walk(archive, LENGTH, NULL, 0, NULL, 0, &n) == 0 && n == ENTRIES);
+    EXPECT(fieldmap_walk(archive, LENGTH, keys, ROOM, NULL, 0, &n) == 0 && n == ENTRIES);
+    EXPECT(fieldmap_walk(archive, LENGTH, NULL, 0, values, ROOM, &n) == 0 && n == ENTRIES);
+    EXPECT(fieldmap_range(archive, LENGTH, FIELDMAP_INCLUDED, 1, FIELDMAP_INCLUDED, 5, NULL, 0, NULL, 0, &n) == 0 && n == 5);
+    EXPECT(fieldmap_range(archive, LENGTH, FIELDMAP_INCLUDED, 1, FIELDMAP_INCLUDED, 6, keys, ROOM, NULL, 0, &n) == 0 && n == 6);
+    EXPECT(fieldmap_range(archive, LENGTH, FIELDMAP_INCLUDED, 1, FIELDMAP_INCLUDED, 7, NULL, 0, values, ROOM, &n) == 0 && n == 7);
+    EXPECT(fieldmap_column(archive, LENGTH, 0, 0, 0, 0, NULL, 0, NULL, 0, &n) == 0 && n == ENTRIES);
+    EXPECT(fieldmap_column(archive, LENGTH, 0, 0, 0, 0, keys, ROOM, NULL, 0, &n) == 0 && n == ENTRIES);
+    EXPECT(fieldmap_column(archive, LENGTH, 0, 0, 0, 0, NULL, 0, values, ROOM, &n) == 0 && n == ENTRIES);
+    EXPECT(holds_list(0, 0));
+
+    REFUSED(fieldmap_build(NULL, 0, 0, NULL, 0, NULL, 0), FIELDMAP_OUTPUT_TOO_SHORT);
+    REFUSED(fieldmap_build(out, 8, 0, &one, 1, NULL, 0), FIELDMAP_ITERATOR_LENGTH_MISMATCH);
+    REFUSED(fieldmap_build(out, 8, 0, NULL, 0, &one, 1), FIELDMAP_ITERATOR_LENGTH_MISMATCH);
+    EXPECT(fieldmap_build(out, 8, 0, NULL, 0, NULL, 0) == 8 && fieldmap_certify(out, 8) == 0);
+}
+
+static void parts(void)
+{
+    struct {
+        int32_t before, number, after;
+    } narrow = {-7, -7, -7};
+    int64_t wide[3] = {-7, -7, -7};
+    struct stored next = fresh, zeros = fresh;
+    REFUSED(fieldmap_signed_offset(0, UINT64_C(1) << 63, &wide[1]), FIELDMAP_ISIZE_OVERFLOW);
+    EXPECT(wide[1] == -7);
+    EXPECT(fieldmap_signed_offset(UINT64_C(1) << 63, 0, &wide[1]) == 0 && wide[1] == INT64_MIN);
+    EXPECT(wide[0] == -7 && wide[2] == -7);
+    REFUSED(fieldmap_offset32(0, UINT64_C(1) << 31, &narrow.number), FIELDMAP_OFFSET_OVERFLOW);
+    EXPECT(narrow.number == -7);
+    EXPECT(fieldmap_offset32(776, 96, &narrow.number) == 0 && narrow.number == -680);
+    REFUSED(fieldmap_absent_offset(UINT64_MAX, &narrow.number), FIELDMAP_ISIZE_OVERFLOW);
+    EXPECT(narrow.number == -680);
+    EXPECT(fieldmap_absent_offset(88, &narrow.number) == 0 && narrow.number == 1);
+    EXPECT(narrow.before == -7 && narrow.after == -7);
+    REFUSED(fieldmap_align(5, 64, &next.number, &zeros.number), FIELDMAP_INVALID_ALIGNMENT);
+    EXPECT(next.number == BEFORE && zeros.number == BEFORE);
+    EXPECT(fieldmap_align(5, 8, &next.number, &zeros.number) == 0 && next.number == 8 && zeros.number == 3);
+    EXPECT(kept(&next) && kept(&zeros));
+}
+
+static void fields(void)
+{
+    struct stored key = fresh;
+    uint32_t examination[3] = {9, 9, 9}, presentation[3] = {9, 9, 9};
+    uint8_t eye[3] = {9, 9, 9};
+    int8_t x[3] = {9, 9, 9}, y[3] = {9, 9, 9};
+    REFUSED(fieldmap_pack(1, 0, -3, 3, UINT32_C(1) << 23, &key.number), FIELDMAP_KEY_FIELD_OVERFLOW);
+    EXPECT(key.number == BEFORE);
+    EXPECT(fieldmap_pack(1, 0, -3, 3, 2, &key.number) == 0 && key.number == UINT64_C(1642850156546) && kept(&key));
+    EXPECT(fieldmap_unpack(key.number, &examination[1], &eye[1], &x[1], &y[1], &presentation[1]) == 0);
+    EXPECT(examination[1] == 1 && eye[1] == 0 && x[1] == -3 && y[1] == 3 && presentation[1] == 2);
+    for (size_t i = 0; i < 3; i += 2)
+        EXPECT(examination[i] == 9 && eye[i] == 9 && x[i] == 9 && y[i] == 9 && presentation[i] == 9);
+    EXPECT(fieldmap_seen(UINT64_MAX) == 1 && fieldmap_seen(UINT64_MAX >> 1) == 0);
+    EXPECT(fieldmap_threshold(UINT64_MAX) == 1023 && fieldmap_threshold(UINT64_C(324) << 53) == 324);
+    EXPECT(fieldmap_threshold(UINT64_C(1) << 63) == 0 && fieldmap_threshold((UINT64_C(1) << 53) - 1) == 0);
+}
+
+/* Each refusal has a text of its own, and the version says the same twice. */
+static void texts(void)
+{
+    char version[32];
+    for (int i = -19; i <= 0; i++) {
+        int none = strcmp(fieldmap_refusal_text(i), "no refusal") == 0;
+        EXPECT(none == (i == -19 || i == 0));
+        for (int j = -18; j < i; j++)
+            EXPECT(i == 0 || strcmp(fieldmap_refusal_text(i), fieldmap_refusal_text(j)) != 0);
+    }
+    sprintf(version, "%d.%d.%d", FIELDMAP_VERSION_MAJOR, FIELDMAP_VERSION_MINOR, FIELDMAP_VERSION_PATCH);
+    EXPECT(strcmp(version, FIELDMAP_VERSION) == 0);
+}
+
+int main(void)
+{
+    static uint8_t archive[LENGTH + 8];
+    memset(archive, 0xaa, sizeof archive);
+    build(archive, sizeof archive);
+    lengths();
+    read_one(archive);
+    read_lists(archive);
+    read_column();
+    null_lists(archive);
+    parts();
+    fields();
+    texts();
+    printf("every call answers as it should\n");
+    return 0;
+}

@@ -1,0 +1,178 @@
+/*
+ * stack LIMIT measures how much stack the calls that take lists use: on archives of 1 to 15 nested nodes and on the longest, and in builds up to
+ * the largest. Prints the most bytes of each call, and ends with 1 if one uses more than LIMIT, with 2 if an archive is not what it should be.
+ *
+ * A call runs on a stack of its own, every byte of which holds the same number; it has used what is above the lowest byte that holds another
+ * one. It runs twice, since what it stores may be the number itself. What a call takes that does nothing is taken off. Linked with -z now, so
+ * that no call includes the search for memcpy or memset.
+ */
+#define _XOPEN_SOURCE 700
+#include <stdint.h>
+#include <stdio.h>
+#include <stdlib.h>
+#include <string.h>
+#include <ucontext.h>
+
+#include "fieldmap.h"
+
+/* A leaf's count stands where an inner node has its children. One node more than may be nested. */
+enum { STACK = 1 << 18, LEAF = 96, INNER = 112, KEYS = 8, CHILDREN = 88, NESTED = FIELDMAP_MOST_NESTED + 1 };
+
+static uint8_t stack[STACK] __attribute__((aligned(64)));
+static ucontext_t here, there;
+
+static uint8_t archive[FIELDMAP_LONGEST_ARCHIVE];
+static size_t length, entries;
+static uint64_t keys[FIELDMAP_MOST_ENTRIES], values[FIELDMAP_MOST_ENTRIES], number, position;
+static volatile int64_t answer;
+
+#define LISTS keys, FIELDMAP_MOST_ENTRIES, values, FIELDMAP_MOST_ENTRIES
+
+static void nothing(void) { answer = 0; }
+static void check(void) { answer = fieldmap_check(archive, length); }
+static void certify(void) { answer = fieldmap_certify(archive, length); }
+static void lookup(void) { answer = fieldmap_lookup(archive, length, 999, &number, &position); }
+static void lookup_bytes(void) { answer = fieldmap_lookup_bytes(archive, length, 999, &position); }
+static void lookup_many(void) { answer = fieldmap_lookup_many(archive, length, LISTS); }
+static void walk(void) { answer = fieldmap_walk(archive, length, LISTS, &number); }
+static void range(void) { answer = fieldmap_range(archive, length, FIELDMAP_EXCLUDED, 0, FIELDMAP_EXCLUDED, UINT64_MAX, LISTS, &number); }
+static void column(void) { answer = fieldmap_column(archive, length, 0, 0, 0, -1, LISTS, &number); }
+static void build(void) { answer = fieldmap_build(archive, sizeof archive, 0, keys, entries, values, entries); }
+static void build_length(void) { answer = fieldmap_build_length(entries, 0); }
+
+/* The calls, each with the most that it has used so far. The builds come last. */
+static struct {
+    const char *name;
+    void (*call)(void);
+    size_t most;
+} calls[] = {
+    {"fieldmap_check", check, 0},
+    {"fieldmap_certify", certify, 0},
+    {"fieldmap_lookup", lookup, 0},
+    {"fieldmap_lookup_bytes", lookup_bytes, 0},
+    {"fieldmap_lookup_many", lookup_many, 0},
+    {"fieldmap_walk", walk, 0},
+    {"fieldmap_range", range, 0},
+    {"fieldmap_column", column, 0},
+    {"fieldmap_build", build, 0},
+    {"fieldmap_build_length", build_length, 0},
+};
+
+enum { CALLS = sizeof calls / sizeof calls[0], READERS = CALLS - 2 };
+
+/* The bytes of the stack from the lowest that changes to its end. */
+static size_t reached(void (*call)(void), int filling)
+{
+    size_t lowest = 0;
+    memset(stack, filling, sizeof stack);
+    getcontext(&there);
+    there.uc_stack.ss_sp = stack;
+    there.uc_stack.ss_size = sizeof stack;
+    there.uc_link = &here;
+    makecontext(&there, call, 0);
+    swapcontext(&here, &there);
+    while (lowest < sizeof stack && stack[lowest] == filling)
+        lowest++;
+    return sizeof stack - lowest;
+}
+
+static void measure(size_t from, size_t to)
+{
+    for (size_t i = from; i < to; i++)
+        for (int filling = 0x55; filling <= 0xaa; filling += 0x55) {
+            size_t used = reached(calls[i].call, filling) - reached(nothing, filling);
+            if (used > calls[i].most)
+                calls[i].most = used;
+        }
+}
+
+static void put(size_t at, uint64_t bits, size_t bytes)
+{
+    memcpy(archive + at, &bits, bytes);
+}
+
+static void put_leaf(size_t at, uint64_t key)
+{
+    put(at + KEYS, key, 8);
+    put(at + CHILDREN, 1, 4);
+}
+
+/*
+ * An inner node, so high above the lowest leaf, that leads to `below` as the given child. If that is not the first child, that one is the leaf
+ * at `first`. Its keys before `below` are under those of all nodes below it, the others above them.
+ */
+static void put_inner(size_t at, size_t height, size_t child, size_t below, size_t first)
+{
+    put(at, 1, 1);
+    for (size_t slot = 0; slot < 5; slot++)
+        put(at + KEYS + 8 * slot, slot < child ? 10 * (NESTED - height) + 1 + slot : 1000 + 10 * height + slot, 8);
+    for (size_t i = 0; i < 6; i++) {
+        size_t field = at + CHILDREN + 4 * i;
+        put(field, i == child ? below - field : i == 0 ? first - field : 1, 4);
+    }
+}
+
+/* A leaf below inner nodes, each the given child of the next; so many in all. What is the first child of a node stands before the others. */
+static size_t nest(size_t nodes, size_t child)
+{
+    size_t inner = nodes - 1, leaves = child > 0 ? inner : 0, root = leaves * LEAF;
+    memset(archive, 0, NESTED * (LEAF + INNER));
+    put_leaf(root, 999);
+    length = root + LEAF;
+    for (size_t height = 1; height <= inner; height++) {
+        size_t first = child > 0 ? (inner - height) * LEAF : 0;
+        if (child > 0)
+            put_leaf(first, 10 * (NESTED - height));
+        put_inner(length, height, child, root, first);
+        root = length;
+        length += INNER;
+    }
+    put(length, root - length, 4);
+    put(length + 4, 1 + 5 * inner + leaves, 4);
+    length += 8;
+    return 1 + 5 * inner + leaves;
+}
+
+/* The archive of the most entries at the end of the longest archive, and whether it is certified. */
+static int longest(void)
+{
+    build();
+    size_t end = (size_t)answer;
+    length = sizeof archive;
+    memmove(archive + length - end, archive, end);
+    return fieldmap_certify(archive, length) == FIELDMAP_MOST_ENTRIES;
+}
+
+static int measure_all(void)
+{
+    for (size_t i = 0; i < FIELDMAP_MOST_ENTRIES; i++)
+        keys[i] = values[i] = i;
+    for (entries = 0; entries < FIELDMAP_MOST_ENTRIES; entries += 1 + entries / 2)
+        measure(READERS, CALLS);
+    entries = FIELDMAP_MOST_ENTRIES;
+    measure(READERS, CALLS);
+    if (!longest())
+        return 0;
+    measure(0, READERS);
+    for (size_t i = 0; i < NESTED * 6; i++) {
+        size_t nodes = 1 + i / 6, count = nest(nodes, i % 6);
+        if (fieldmap_certify(archive, length) != (nodes < NESTED ? (int64_t)count : -FIELDMAP_EXCEEDED_MAXIMUM_SUBTREE_DEPTH))
+            return 0;
+        measure(0, READERS);
+    }
+    return 1;
+}
+
+int main(int argc, char **argv)
+{
+    long limit = argc == 2 ? atol(argv[1]) : 0;
+    int status = 0;
+    if (!measure_all())
+        return 2;
+    for (size_t i = 0; i < CALLS; i++) {
+        printf("%5zu bytes of stack: %s\n", calls[i].most, calls[i].name);
+        if (calls[i].most > (size_t)limit)
+            status = 1;
+    }
+    return status;
+}
