@@ -5,6 +5,7 @@ pub mod cases;
 pub mod counts;
 #[cfg(feature = "ours")]
 pub mod lender;
+pub mod lists;
 pub mod model;
 #[cfg(feature = "ours")]
 pub mod ours;

@@ -36,9 +36,21 @@ pub fn lookup(archive: &[u8], key: u64) -> Result<Option<Found>, u8> {
         .map_err(Refusal::number)
 }
 
-/// The bytes of its value, as a part of the archive; none where there is no such entry or the archive is refused.
-pub fn lookup_bytes(archive: &[u8], key: u64) -> &[u8] {
-    fieldmap::lookup_bytes(archive, key)
+extern "C" {
+    fn fieldmap_lookup_bytes(archive: *const u8, length: usize, key: u64, start: *mut u64) -> i64;
+}
+
+/// The bytes of its value, as a part of the archive, none where there is no such entry, or the refusal, for which the crate gives no bytes.
+pub fn lookup_bytes(archive: &[u8], key: u64) -> Result<&[u8], u8> {
+    let mut start = 0;
+    // SAFETY: the pointers are a slice's, with its length, and a local's; the call reads and writes nothing else and keeps neither.
+    let answer = unsafe { fieldmap_lookup_bytes(archive.as_ptr(), archive.len(), key, &mut start) };
+    let part = match usize::try_from(answer) {
+        Ok(length) => Ok(&archive[start as usize..][..length]),
+        Err(_) => Err(-answer as u8),
+    };
+    assert_eq!(fieldmap::lookup_bytes(archive, key), part.unwrap_or(&[]));
+    part
 }
 
 /// The number of keys found after one check, their values each in its place, or the refusal.
@@ -78,6 +90,11 @@ pub fn build(output: &mut [u8], header: usize, keys: &[u64], values: &[u64]) -> 
     answer(fieldmap::build(output, header, keys, values))
 }
 
+/// The end that a build of so many entries behind a header will answer, or the refusal.
+pub fn build_length(entries: usize, header: usize) -> Result<u32, u8> {
+    answer(fieldmap::build_length(entries, header))
+}
+
 /// The offset that a field at one position stores to lead to another, or the refusal.
 pub fn offset(from: u64, to: u64) -> Result<i32, u8> {
     fieldmap::offset32(from, to).map_err(Refusal::number)
@@ -105,4 +122,14 @@ pub fn pack(fields: &KeyFields) -> Result<u64, u8> {
         presentation: fields.presentation,
     };
     key.pack().map_err(Refusal::number)
+}
+
+/// Whether the stimulus of a value was seen.
+pub fn seen(value: u64) -> bool {
+    fieldmap::Value(value).is_seen()
+}
+
+/// The threshold of a value in tenths of a decibel.
+pub fn threshold(value: u64) -> u64 {
+    fieldmap::Value(value).threshold().into()
 }

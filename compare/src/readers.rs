@@ -179,11 +179,12 @@ mod proved {
             };
             let what = format!("lookup of {key}");
             same(&what, ("rkyv", entry), ("ours", ours::lookup(bytes, key)))?;
-            let entry = entry.ok().flatten();
-            let part = entry.map_or(&bytes[..0], |(_, _, position)| &bytes[position..][..8]);
+            let part = |(_, _, position)| &bytes[position..][..8];
+            let part = entry.map(|entry| entry.map_or(&bytes[..0], part));
             let what = format!("the bytes of {key}");
             let answer = ours::lookup_bytes(bytes, key);
             same(&what, ("rkyv", part), ("ours", answer))?;
+            let entry = entry.ok().flatten();
             found.push(entry.map_or(BEFORE, |entry| entry.1));
         }
 

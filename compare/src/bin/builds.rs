@@ -2,17 +2,18 @@
 //! tree grows or the builder ends, and random ones up to 40,000, each behind headers of every length in `headers`.
 //!
 //! `builds [LIMIT [SEED]]` takes the numbers from 0 to the limit, 2,000 if none is given. The output holds bytes other than 0 before each call;
-//! those of the header and those past the archive must stay, and check and certify must accept the archive with the number of entries. Once
-//! for each list the readers' answers about the archive are compared too. Refused calls must leave the output as it was; there document 01 is
-//! the reference, since rkyv takes every list. Prints how many archives and how many refused calls there were. If some differ, it prints the
-//! first of them and ends with 1. With a limit of 2,000 or more it also ends with 1 if one of the refusals 10 to 14 comes up less than 100
-//! times.
+//! those of the header and those past the archive must stay, check and certify must accept the archive with the number of entries, and the
+//! length that is told beforehand must be the archive's end. Once for each list the readers' answers about the archive are compared too. Refused
+//! calls must leave the output as it was; there document 01 is the reference, since rkyv takes every list. Prints how many archives and how
+//! many refused calls there were. If some differ, it prints the first of them and ends with 1. With a limit of 2,000 or more it also ends with
+//! 1 if one of the refusals 10 to 14 comes up less than 100 times.
 
 use std::env;
 use std::fmt::Debug;
 use std::process::ExitCode;
 
 use compare::counts::{Counts, LeftOut, LEAST};
+use compare::lists::entries;
 use compare::model::{LONGEST, LONGEST_HEADER, MOST_GIVEN as MOST};
 use compare::ours;
 use compare::readers;
@@ -64,37 +65,6 @@ fn main() -> ExitCode {
 /// The lengths of the headers: each place in 8 bytes, twice over, and the longest.
 fn headers() -> impl Iterator<Item = usize> {
     (0..=17).chain([HEADER - 1, HEADER])
-}
-
-/// As many ascending keys and values: gaps of any size, in every other list the largest key and in every third the smallest; of eight values
-/// one is the smallest and one the largest.
-fn entries(number: usize, random: &mut Random) -> (Vec<u64>, Vec<u64>) {
-    let widest = u64::MAX / (number as u64 + 1);
-    let mut below = 0;
-    let mut keys: Vec<u64> = (0..number)
-        .map(|_| {
-            let key = below + random.number() % widest;
-            below = key + 1;
-            key
-        })
-        .collect();
-    if number.is_multiple_of(2) {
-        if let Some(last) = keys.last_mut() {
-            *last = u64::MAX;
-        }
-    }
-    if number.is_multiple_of(3) {
-        if let Some(first) = keys.first_mut().filter(|_| number > 1) {
-            *first = 0;
-        }
-    }
-    let mut value = || match random.below(8) {
-        0 => 0,
-        1 => u64::MAX,
-        _ => random.number(),
-    };
-    let values = (0..number).map(|_| value()).collect();
-    (keys, values)
 }
 
 /// How many there were, and in how many the answers differ.
@@ -179,7 +149,9 @@ impl Run {
         let answer = ours::build(output, header, keys, values);
         let count = Ok(keys.len() as u32);
         let archive = &output[..end];
+        let length = ours::build_length(keys.len(), header);
         let difference = same("answer", Ok(end as u32), answer)
+            .and_then(|()| same("length", Ok(end as u32), length))
             .and_then(|()| same_bytes("archive", &self.rkyv, archive))
             .and_then(|()| same_bytes("bytes past it", &before[end..], &output[end..]))
             .and_then(|()| same("check", count, ours::check(archive)))
@@ -247,8 +219,12 @@ impl Run {
         let output = &mut self.output[..length];
         output.copy_from_slice(before);
         let answer = ours::build(output, header, keys, values);
-        let difference =
+        let mut difference =
             same("answer", Err(number), answer).and_then(|()| same_bytes("output", before, output));
+        if let 11 | 13 = number {
+            let length = ours::build_length(keys.len(), header);
+            difference = difference.and_then(|()| same("length", Err(number), length));
+        }
         self.refused.number += 1;
         self.numbers.add(answer);
         if let Err(difference) = difference {

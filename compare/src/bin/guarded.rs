@@ -13,6 +13,7 @@ use std::sync::atomic::{AtomicU64, Ordering};
 
 use compare::counts::Counts;
 use compare::lender::{Lender, Place};
+use compare::rkyv_map::Found;
 use compare::trees::{self, Random};
 use compare::{model, ours};
 
@@ -143,8 +144,9 @@ fn read(
     for &key in &sought {
         let found = ours::lookup(archive, key);
         let part = ours::lookup_bytes(archive, key);
-        let value = found.ok().flatten().map(|entry| entry.1.to_le_bytes());
-        expect(part == value.as_ref().map_or(&[][..], |v| v), "a part")?;
+        let value = |entry: Found| entry.1.to_le_bytes().to_vec();
+        let value = found.map(|entry| entry.map_or(Vec::new(), value));
+        expect(part == value.as_deref().map_err(|&number| number), "a part")?;
         trace.push(format!("{found:?}"));
     }
     let values = lenders.values.lend(place, &vec![BEFORE; random.below(5)]);
