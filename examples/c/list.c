@@ -2,7 +2,8 @@
  * list FILE prints what an archive is, and its points.
  *
  * The first line is `certified N`, `open N` where the archive is accepted and not certified, or `refused N: why`. Then comes a line a point, in
- * the order of the walk: the examination, the eye, x and y in degrees, the presentation, whether it was seen, and the threshold.
+ * the order of the walk: the examination, the eye, x and y in degrees, the presentation, whether it was seen, and the threshold. Why an open
+ * archive is not certified is said on standard error.
  *
  * The program ends with 0, with 1 where the archive is refused, and with 2 where the file cannot be read or the text not written.
  *
@@ -61,6 +62,8 @@ static int list(const uint8_t *archive, size_t length)
     int64_t count = certified >= 0 ? certified : fieldmap_check(archive, length);
     if (count < 0)
         return refused(count);
+    if (certified < 0)
+        fprintf(stderr, "not certified: refused %" PRId64 ": %s\n", -certified, fieldmap_refusal_text(certified));
 
     /* malloc may give a null pointer for no entries; as an empty list it may pass. */
     size_t room = (size_t)count;

@@ -15,7 +15,7 @@ CALLS = {
     "fieldmap_seen": [c_uint64],
     "fieldmap_threshold": [c_uint64],
 }
-# What check refuses by, from 1 on, in the words of fieldmap.h.
+# What certify refuses by, from 1 on, in the words of fieldmap.h.
 REFUSALS = [
     "the archive is longer than 1,048,576 bytes",
     "the record or a node leaves its range",
@@ -24,6 +24,8 @@ REFUSALS = [
     "more than 14 nodes are nested",
     "a leaf counts more than 5 entries",
     "the entries are not as many as recorded",
+    "a leaf is empty, or an inner node has no first child",
+    "a key is not above the one before",
 ]
 
 
@@ -44,11 +46,17 @@ def point(library, key, value):
     return f"{examination} {'left' if eye else 'right'} {x} {y} {presentation} {seen} {decibels:.1f} dB"
 
 
+def refused(answer):
+    return f"refused {-answer}: {REFUSALS[-answer - 1]}"
+
+
 def listing(library, archive):
     certified = library.fieldmap_certify(archive, len(archive))
     count = certified if certified >= 0 else library.fieldmap_check(archive, len(archive))
     if count < 0:
-        return 1, [f"refused {-count}: {REFUSALS[-count - 1]}"]
+        return 1, [refused(count)]
+    if certified < 0:
+        print("not certified:", refused(certified), file=sys.stderr)
     keys, values, recorded = (c_uint64 * count)(), (c_uint64 * count)(), c_uint64()
     written = library.fieldmap_walk(archive, len(archive), keys, count, values, count, byref(recorded))
     kind = "certified" if certified >= 0 else "open"
