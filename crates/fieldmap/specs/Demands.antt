@@ -136,8 +136,8 @@ unfolding outAfter
 demand-1-output ks vs h out r e = ap (λ (a : Answer ℕ). outBy layout32 a h (pairs ks vs) out) e
 
 -- The length for so many entries is refused only by 11 and 13, and where a build gives an end it is that length.
-pub demand-1-length : (n h : ℕ) → RefusesBy 11 13 (buildLength layout32 n h)
-demand-1-length n h = length-by layout32 n h
+pub demand-1-length : (n h r : ℕ) → buildLength layout32 n h ≡ refuses r → (r ≡ 11) ⊎ (r ≡ 13)
+demand-1-length n h r e = length-by layout32 n h r e
 
 pub demand-3-length : (ks vs : List ℕ) (h room n : ℕ) → build layout32 ks vs h room ≡ gives n → buildLength layout32 (length ks) h ≡ gives n
 demand-3-length ks vs h room n e = length-given layout32 ks vs h room n e

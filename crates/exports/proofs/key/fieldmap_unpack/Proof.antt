@@ -11,11 +11,16 @@ returns : tie.Need-returns
 returns c =
     let e = c .before .before .unpack .ensures in
     let x = toZ-ofZ {w = w8} (sfits-of (c .before .struct-told .given .1 .1 .0 .1)) in
-    let y = toZ-ofZ {w = w8} (sfits-of (c .struct-told2 .given .1 .1 .1 .0 .1)) in
-    (refl,
-    (ap (λ (f : KeyFields). f .examination) e,
-    (ap (λ (f : KeyFields). f .eye) e,
-    (x ∙ ap (λ (f : KeyFields). f .x) e, (y ∙ ap (λ (f : KeyFields). f .y) e, ap (λ (f : KeyFields). f .presentation) e)))))
+    let y = toZ-ofZ {w = w8} (sfits-of (c .struct-told2 .given .1 .1 .1 .0 .1)) in (
+      refl,
+      (
+        ap (λ (f : KeyFields). f .examination) e,
+        (
+          ap (λ (f : KeyFields). f .eye) e,
+          (x ∙ ap (λ (f : KeyFields). f .x) e, (y ∙ ap (λ (f : KeyFields). f .y) e, ap (λ (f : KeyFields). f .presentation) e)),
+        ),
+      ),
+    )
 
 pub fieldmap-unpack-spec : {M : Type 1} → statement M
 fieldmap-unpack-spec = tie.close (tie.spec (λ c κs. search needs) returns)

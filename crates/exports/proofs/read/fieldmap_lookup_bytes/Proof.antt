@@ -14,10 +14,13 @@ returns : tie.Need-returns
 returns c =
     let call : tie.After-lookup = search in
     let e = sym (call .lookup .ensures) ∙ ap lookupOf (c .before .before .fault .given .1) in
-    let r = toZ-ofZ {w = w64} (sfits-of (c .refused .ok)) ∙ c .refused .ensures in
-    (code-refused partLength e r,
-    (told-refused (c .before .before .fault .given .0 .0) e r,
-    (refused-stored entryPosition _ e, no-bytes (c .before .before .fault .given .0 .0) _ r ∙ sym (refused-part layout32 standard _ _ e))))
+    let r = toZ-ofZ {w = w64} (sfits-of (c .refused .ok)) ∙ c .refused .ensures in (
+      code-refused partLength e r,
+      (
+        told-refused (c .before .before .fault .given .0 .0) e r,
+        (refused-stored entryPosition _ e, no-bytes (c .before .before .fault .given .0 .0) _ r ∙ sym (refused-part layout32 standard _ _ e)),
+      ),
+    )
 
 returns-2 : tie.Need-returns-2
 returns-2 c =

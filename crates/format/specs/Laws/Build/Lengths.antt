@@ -29,6 +29,7 @@ module _ (L : Layout) where
 
   mutual
     unfolding leafBytes innerBytes
+
     written-T : (t : Tree) (p : ℕ) → length (writeT L t p) ≡ lengthT L t
     written-T (leafT es) p = simp (length-append, length-head, length-leBytes, length-replicate) (omega arith)
     written-T (innerT bs) p =

@@ -105,9 +105,14 @@ build-by L ks vs h room =
     (by-provided (rises ks) 12 _ (omega arith) (omega arith)
     (by-provided (leb h 4096) 13 _ (omega arith) (omega arith) (by-provided (leb n room) 14 _ (omega arith) (omega arith) (by-gives n)))))
 
-pub length-by : (L : Layout) (n h : ℕ) → RefusesBy 11 13 (buildLength L n h)
+pub length-by : (L : Layout) (n h r : ℕ) → buildLength L n h ≡ refuses r → (r ≡ 11) ⊎ (r ≡ 13)
 unfolding buildLength
-length-by L n h = by-provided (leb n 40000) 11 _ (omega arith) (omega arith) (by-provided (leb h 4096) 13 _ (omega arith) (omega arith) (by-gives _))
+length-by L n h r e = by (leb n 40000) (leb h 4096) _ e
+  where
+    by : (a b : Bool) (x : ℕ) → provided a 11 (provided b 13 (gives x)) ≡ refuses r → (r ≡ 11) ⊎ (r ≡ 13)
+    by true true x e = absurd (given e)
+    by true false x e = inr (sym (same-number e))
+    by false b x e = inl (sym (same-number e))
 
 -- ---- check and certify
 
