@@ -1,5 +1,5 @@
 -- Laws of many lookups: of a step, of the keys looked up so far, and of the call by what check answers. Assumes nothing.
-use Prim.Native.Nat.{ℕ, zero, suc, _+_, _-_, _≤_, _<_, min}
+use Prim.Native.Nat.{ℕ, zero, suc, _+_, _-_, _≤_, min}
 use mathlib.Core.Path.{_≡_, refl, sym, _∙_, ap}
 use mathlib.Core.List.{List}
 use native.Mathlib.Omega.{arith}
@@ -9,7 +9,7 @@ use Rattle.format.specs.declared.Entry.{Entry}
 use Rattle.format.specs.declared.Found.{Found}
 use Rattle.format.specs.declared.Found.the-variants.{Entry as found, Nothing as nothing}
 use Rattle.format.specs.Layout.{Layout, Limits, nested, recordSize}
-use Rattle.format.specs.Refusal.{Answer, gives, refuses}
+use Rattle.format.specs.Refusal.{gives, refuses}
 use Rattle.format.specs.RelPtr.{at, target}
 use Rattle.format.specs.Check.{counted, checkArchive}
 use Rattle.format.specs.Lookup.{lookup, lookupAt}

@@ -10,7 +10,8 @@ ghost use Rattle.format.specs.Layout.{layout32, standard};
 ghost use Rattle.format.specs.Check.{counted, checkArchive};
 ghost use Rattle.format.specs.Certify.{certify};
 ghost use Rattle.format.specs.Calls.{lookupCall, bytesCall, walkCall, walkKeys, walkValues};
-ghost use Rattle.exports.specs.Answers.{coded, Tells, stored, foundFlag, partLength, lengthTold, storedFound, entryValue, entryPosition, walkWritten, walkCount};
+ghost use Rattle.exports.specs.Answers.{coded, Tells, stored, foundFlag, partLength, lengthTold, storedFound};
+ghost use Rattle.exports.specs.Answers.{entryValue, entryPosition, walkWritten, walkCount};
 
 // The recorded count, or the first fault of 1 to 7.
 #[no_mangle]

@@ -18,7 +18,9 @@ bytes : (k : tie.After-shared-slice-known) → AllBytes (k .before .args .archiv
 bytes k i = k .shared-slice-known .given i .fits
 
 counted-requires : tie.Need-counted-requires
-counted-requires c κs = λ n e. omega (arith, count-fits layout32 standard _ (bytes (search)) n (certified-accepts layout32 standard _ n (sym (c .certify .ensures) ∙ e)))
+counted-requires c κs = λ n e.
+    let a = certified-accepts layout32 standard _ n (sym (c .certify .ensures) ∙ e) in
+    omega (arith, count-fits layout32 standard _ (bytes (search)) n a)
 
 returns : tie.Need-returns
 returns c =

@@ -6,7 +6,8 @@ use borrow.Author.Needs.{needs, sfits-of}
 use Rattle.fieldmap.specs.Answers.{lookupOf}
 use Rattle.format.specs.Layout.{layout32, standard}
 use Rattle.exports.specs.Answers.{partLength, entryPosition}
-use Rattle.exports.proofs.Given.{code-given, code-refused, told-given, told-refused, no-bytes, found-stored, nothing-stored, refused-stored, found-part, nothing-part, refused-part}
+use Rattle.exports.proofs.Given.{code-given, code-refused, told-given, told-refused, no-bytes}
+use Rattle.exports.proofs.Given.{found-stored, nothing-stored, refused-stored, found-part, nothing-part, refused-part}
 use Rattle.exports.proofs.read.fieldmap_lookup_bytes.Statement.{statement}
 use Rattle.exports.proofs.read.fieldmap_lookup_bytes.Tie as tie
 

@@ -1,20 +1,22 @@
 -- An archive's length goes by the number of entries alone: build ends where `buildLength` says, for every list and every layout, and is refused by
 -- 11 and 13 where `buildLength` is. Assumes nothing.
-use Prim.Native.Nat.{ℕ, zero, suc, _+_, _-_, _*_, _≤_, min}
+use Prim.Native.Nat.{ℕ, zero, suc, _+_, _-_, _*_}
 use mathlib.Core.Path.{_≡_, refl, sym, ap, ap₂, _∙_, subst}
 use mathlib.Core.Bool.{Bool, true, false}
-use mathlib.Core.List.{List, [], _∷_, map}
+use mathlib.Core.List.{List, [], _∷_}
 use native.Mathlib.Omega.{arith}
 use native.Mathlib.Nat.{suc-ne-zero, suc-inj}
-use lib.Dec.{leb, eqb}
-use lib.ListN.{length, replicate, length-append, length-replicate, length-drop}
-use borrow.Author.Tests.{leb-true, le-leb, eq-eqb}
+use lib.Dec.{leb}
+use lib.ListN.{length, length-append, length-replicate, length-drop}
+use borrow.Author.Tests.{le-leb, eq-eqb}
 use Rattle.format.specs.declared.Child.{Child}
 use Rattle.format.specs.Layout.{Layout, pointer}
 use Rattle.format.specs.Refusal.{gives, provided, andThen}
 use Rattle.format.specs.Align.{zerosTo}
-use Rattle.format.specs.Tree.{Pair, Slot, lesserBytes, leafBytes, innerBytes, Tree, leafT, innerT, Branches, lastB, moreB, Branch, noneB, someB, lengthT, lengthBranches, lengthBranch, slotsOf, greaterOf, writeT, writeBranches, writeBranch}
-use Rattle.format.specs.Build.{Filled, FilledBranches, fillNext, fillBranches, fill, height, lastLevel, treeOf, firstAlign, behind, pairs, rises, build, buildLength}
+use Rattle.format.specs.Tree.{Pair, Tree, leafT, innerT, Branches, lastB, moreB, Branch, noneB, someB, lengthT, lengthBranches, lengthBranch}
+use Rattle.format.specs.Tree.{lesserBytes, leafBytes, innerBytes, writeT, writeBranches, writeBranch}
+use Rattle.format.specs.Build.{Filled, FilledBranches, closed, fillNext, fillBranches, fill, height, lastLevel, treeOf}
+use Rattle.format.specs.Build.{firstAlign, behind, pairs, rises, build, buildLength}
 use Rattle.format.specs.Laws.Numbers.Bytes.{length-leBytes}
 use Rattle.format.specs.Laws.Build.Laid.{length-head, length-offset}
 use Rattle.format.specs.Laws.Build.Built32.{length-pairs, taken}
@@ -78,11 +80,10 @@ module _ (L : Layout) where
         let A = alike m es fs e in
         next-alike (fillBranches give n) (branches-alike n) (give m es) (give m fs) A (give m es .rest) (give m fs .rest) (A .left)
 
-    inner-alike : (m : ℕ) (es fs : List Pair) → length es ≡ length fs → (r s : FilledBranches) → r ≡ fillBranches give (L .entries) m es
-        → s ≡ fillBranches give (L .entries) m fs
-        → Alike (record { branch = someB (innerT (r .branches)); rest = r .rest; last = r .last }) (record { branch = someB (innerT (s .branches)); rest = s .rest; last = s .last })
-    inner-alike m es fs e r s er es′ =
-        let B : AlikeBranches r s = rw (er, es′) (branches-alike (L .entries) m es fs e) in
+    inner-alike : (m : ℕ) (es fs : List Pair) → length es ≡ length fs
+        → Alike (closed (fillBranches give (L .entries) m es)) (closed (fillBranches give (L .entries) m fs))
+    inner-alike m es fs e =
+        let B = branches-alike (L .entries) m es fs e in
         record { size = omega (arith, B .size); first = refl; left = B .left; last = B .last }
 
   fill-alike : (h m : ℕ) (es fs : List Pair) → length es ≡ length fs → Alike (fill L h m es) (fill L h m fs)
@@ -90,8 +91,8 @@ module _ (L : Layout) where
   fill-alike zero zero es fs e = record { size = refl; first = refl; left = e; last = refl }
   fill-alike zero (suc m) es fs e = record { size = refl; first = refl; left = simp length-drop (omega (arith, e)); last = refl }
   fill-alike (suc zero) zero es fs e = record { size = refl; first = refl; left = simp length-drop (omega (arith, e)); last = refl }
-  fill-alike (suc zero) (suc m) es fs e = inner-alike (fill L zero) (fill-alike zero) (suc m) es fs e _ _ refl refl
-  fill-alike (suc (suc h)) m es fs e = inner-alike (fill L (suc h)) (fill-alike (suc h)) m es fs e _ _ refl refl
+  fill-alike (suc zero) (suc m) es fs e = inner-alike (fill L zero) (fill-alike zero) (suc m) es fs e
+  fill-alike (suc (suc h)) m es fs e = inner-alike (fill L (suc h)) (fill-alike (suc h)) m es fs e
 
   -- What stands behind a header is as long for other entries, if they are as many.
   same-end : (es fs : List Pair) → length es ≡ length fs → (h n : ℕ) → length (behind L h (treeOf L es) n) ≡ length (behind L h (treeOf L fs) n)

@@ -89,7 +89,8 @@ length-fits n h m e =
     let (low, e₂) = provided-inv (leb h 4096) _ _ e₁ in
     let em : m ≡ h + length (behind layout32 h b n) = cc in
     let el = length-replicate {A = Pair} n (record { key = 0; value = 0 }) in
-    omega (arith, leb-true n 40000 few, leb-true h 4096 low, behind-length layout32 h n b, start-near b h, short es (fit n) (omega (arith, el, leb-true n 40000 few)))
+    let n-few = leb-true n 40000 few in
+    omega (arith, n-few, leb-true h 4096 low, behind-length layout32 h n b, start-near b h, short es (fit n) (omega (arith, el, n-few)))
   where
     fit : (n : ℕ) → AllFit (replicate n (record { key = 0; value = 0 }))
     fit zero = tt

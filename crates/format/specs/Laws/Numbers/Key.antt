@@ -159,7 +159,8 @@ around (pos m) (pos n) x ha hb hx p q l u = absurd (true≢false q)
 around (pos m) (negsuc n) (pos k) ha hb hx p q l u = inl (record { le = le→leb m k l })
 around (pos m) (negsuc n) (negsuc k) ha hb hx p q l u = inr (record { le = le→leb n k (omega arith) })
 
-around-bits : (a b x : ℤ) → Small a → Small b → Small x → nonNeg a ≡ true → nonNeg b ≡ false → (a ≤ℤ x) ⊎ (x ≤ℤ b) → (twos 7 a ≤ twos 7 x) × (twos 7 x ≤ twos 7 b)
+around-bits : (a b x : ℤ) → Small a → Small b → Small x → nonNeg a ≡ true → nonNeg b ≡ false → (a ≤ℤ x) ⊎ (x ≤ℤ b)
+    → (twos 7 a ≤ twos 7 x) × (twos 7 x ≤ twos 7 b)
 unfolding twos
 around-bits (negsuc m) b x ha hb hx p q s = absurd (true≢false (sym p))
 around-bits (pos m) (pos n) x ha hb hx p q s = absurd (true≢false q)
@@ -213,7 +214,8 @@ module _ (exam eye : ℕ) (a b : ℤ) (ha : mag a < 128) (hb : mag b < 128) (c :
     passes o l u =
         let (f, h, ec) = ends in
         let ex = twos-ofTwos 7 (e .key / 2 ^ 31 % 256) (omega arith) in
-        let (p, q) = in-bits exam eye (twos 7 a) (twos 7 b) (e .key) f h (twos-lt 7 a ha) (twos-lt 7 b hb) (o .0) (o .1) (omega (arith, ex)) (omega (arith, ex)) in
+        let (p, q) =
+        in-bits exam eye (twos 7 a) (twos 7 b) (e .key) f h (twos-lt 7 a ha) (twos-lt 7 b hb) (o .0) (o .1) (omega (arith, ex)) (omega (arith, ex)) in
         ap (λ (d : Column). matches (d .lower) (d .upper) e) ec ∙ both (leb low (e .key)) _ (le-leb _ _ p) (le-leb (e .key) high q)
       where
         both : (x y : Bool) → x ≡ true → y ≡ true → elim x [ true ↦ y | false ↦ false ] ≡ true
