@@ -36,7 +36,7 @@ extern "C" {
 #define FIELDMAP_MOST_ENTRIES 40000      /* entries of a build */
 #define FIELDMAP_LONGEST_HEADER 4096     /* bytes in front of a built archive */
 
-/* A compiler that can warns where an answer, which may be a refusal, is not looked at. */
+/* Where the compiler can, it warns of an answer, which may be a refusal, that is not looked at. */
 #if defined(__GNUC__) || defined(__clang__)
 #define FIELDMAP_MUST_USE __attribute__((warn_unused_result))
 #else
@@ -97,7 +97,10 @@ static inline const char *fieldmap_refusal_text(int64_t answer) {
     }
 }
 
-/* The recorded count of an archive that rkyv's check accepts, or the first fault of 1 to 7. */
+/*
+ * The recorded count of an archive of at most 1,048,576 bytes that rkyv's check, with at most 14 nested nodes, accepts, or the first fault of 1
+ * to 7.
+ */
 FIELDMAP_MUST_USE int64_t fieldmap_check(const uint8_t *archive, size_t archive_len);
 
 /* The recorded count of an accepted archive whose keys strictly ascend and that has no hollow node, or the first fault of 1 to 9. */

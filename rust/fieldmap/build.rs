@@ -2,12 +2,12 @@
 //! else from `target/staticlib` of the repository.
 //!
 //! Where the library is not there, this only warns: the crate can be checked and documented without it, and a program that uses it does not
-//! link. The same holds of a library of version 0.1, whose answers mean something else.
+//! link. The same holds of a library without `fieldmap_build_length`, which is of another version and answers otherwise.
 
 use std::path::{Path, PathBuf};
 use std::{env, fs};
 
-/// A call that the library has from version 0.2 on, as it has signed answers.
+/// A call that the library of this version has.
 const SIGNED: &[u8] = b"fieldmap_build_length";
 
 fn main() {
@@ -19,7 +19,7 @@ fn main() {
     match fs::read(&library) {
         Err(_) => warn(&library, "is not there"),
         Ok(bytes) if !bytes.windows(SIGNED.len()).any(|part| part == SIGNED) => {
-            warn(&library, "is of version 0.1")
+            warn(&library, "is of another version")
         }
         Ok(_) => println!("cargo::rustc-link-search=native={}", folder.display()),
     }
@@ -38,7 +38,8 @@ fn warn(library: &Path, why: &str) {
 /// The folder of the library. Cargo runs this script in the crate's folder; a relative `FIELDMAP_LIB` starts where cargo itself is run, which
 /// the variable `PWD` says.
 fn folder() -> PathBuf {
-    let Some(named) = env::var_os("FIELDMAP_LIB").map(PathBuf::from) else {
+    let named = env::var_os("FIELDMAP_LIB").filter(|named| !named.is_empty());
+    let Some(named) = named.map(PathBuf::from) else {
         let here = env::var_os("CARGO_MANIFEST_DIR").expect("cargo sets the crate's folder");
         return PathBuf::from(here).join("../../target/staticlib");
     };

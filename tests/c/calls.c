@@ -1,5 +1,5 @@
 /*
- * Uses every call of fieldmap.h and holds what it gives against document 01. Prints `every call answers as it should` and ends with 0, or names
+ * Uses every call of fieldmap.h and holds what it gives against docs/FORMAT.md. Prints `every call answers as it should` and ends with 0, or names
  * the first line that does not hold and ends with 1. It compiles as C99 and as C++17.
  */
 #include <stdint.h>

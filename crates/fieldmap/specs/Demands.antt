@@ -1,7 +1,8 @@
--- The mission's demands as theorems about what the calls promise, in the order of its sentences. The calls' contracts equate each answer, and
--- each lent list afterwards, with a definition of `format` at `layout32` and `standard`; the theorems speak of these definitions, for all arguments.
+-- What is demanded of the calls, as theorems about what they promise: 1, each answers or gives a listed refusal; 2, they do what the crate does; 3, what
+-- holds of accepted, certified and built archives. The words in quotes are the mission's. The calls' contracts equate each answer, and each lent list
+-- afterwards, with a definition of `format` at `layout32` and `standard`; the theorems speak of these definitions, for all arguments.
 -- Assumes nothing.
-use Prim.Native.Nat.{ℕ, _+_, _^_, _<_, _≤_}
+use Prim.Native.Nat.{ℕ, _+_, _^_, _<_}
 use mathlib.Core.Path.{_≡_, sym, _∙_, ap}
 use mathlib.Core.Logic.{_≢_, _↔_, _⊎_}
 use mathlib.Core.Bool.{false}
@@ -135,12 +136,9 @@ pub demand-1-output : (ks vs : List ℕ) (h : ℕ) (out : List ℕ) (r : ℕ) �
 unfolding outAfter
 demand-1-output ks vs h out r e = ap (λ (a : Answer ℕ). outBy layout32 a h (pairs ks vs) out) e
 
--- The length for so many entries is refused only by 11 and 13, and where a build gives an end it is that length.
+-- The length for so many entries is refused only by 11 and 13.
 pub demand-1-length : (n h r : ℕ) → buildLength layout32 n h ≡ refuses r → (r ≡ 11) ⊎ (r ≡ 13)
 demand-1-length n h r e = length-by layout32 n h r e
-
-pub demand-3-length : (ks vs : List ℕ) (h room n : ℕ) → build layout32 ks vs h room ≡ gives n → buildLength layout32 (length ks) h ≡ gives n
-demand-3-length ks vs h room n e = length-given layout32 ks vs h room n e
 
 -- The parts and the packing are lent nothing. The absent mark is asked for a position, which has 64 bits.
 pub demand-1-signed-offset : (from to : ℕ) → RefusesBy 15 15 (signedOffset from to)
@@ -264,6 +262,10 @@ module _ (s : List ℕ) (n : ℕ) (certifies : counted (certify layout32 standar
 -- "And for every strictly ascending list that the builder takes": it takes exactly what 10 to 14 let through.
 pub demand-3-takes : (ks vs : List ℕ) (h room n : ℕ) → (build layout32 ks vs h room ≡ gives n) ↔ Taken layout32 ks vs h room n
 demand-3-takes ks vs h room n = (taken layout32 ks vs h room n, taken-gives layout32 ks vs h room n)
+
+-- Where it gives an end, that is the length for so many entries.
+pub demand-3-length : (ks vs : List ℕ) (h room n : ℕ) → build layout32 ks vs h room ≡ gives n → buildLength layout32 (length ks) h ≡ gives n
+demand-3-length ks vs h room n e = length-given layout32 ks vs h room n e
 
 -- ", behind whatever header, the archive is certified, and its list has the given keys and values, entry for entry." The archive is the output's first n
 -- bytes as the builder left them, the header in front; the bytes past it are as they were; 15 and 16 never arise.
