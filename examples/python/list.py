@@ -1,6 +1,7 @@
 """list.py FILE [LIBRARY] prints what an archive is, and its points, as examples/c/list.c does.
 
-LIBRARY is the shared library, ./libfieldmap.so if none is given. The program ends with 0, or with 1 where the archive is refused.
+LIBRARY is the shared library, ./libfieldmap.so if none is given. The program ends with 0, with 1 where the archive is refused, and with 2 where the
+file or the library cannot be read.
 """
 import ctypes as c
 import sys
@@ -16,10 +17,22 @@ the entries are not as many as recorded
 a leaf is empty, or an inner node has no first child
 a key is not above the one before""".splitlines()
 
+
+
+def fail(*words):
+    print("list.py:", *words, file=sys.stderr)
+    sys.exit(2)
+
+
 if len(sys.argv) not in (2, 3):
-    sys.exit("usage: list.py FILE [LIBRARY]")
+    fail("usage: list.py FILE [LIBRARY]")
 file, library = (sys.argv[1:] + ["./libfieldmap.so"])[:2]
-fieldmap = c.CDLL(library)
+try:
+    fieldmap = c.CDLL(library)
+    with open(file, "rb") as opened:
+        archive = opened.read()
+except OSError as error:
+    fail(error)
 BYTES, SIZE, U64 = c.c_char_p, c.c_size_t, c.POINTER(c.c_uint64)
 FIELDS = c.c_uint32, c.c_uint8, c.c_int8, c.c_int8, c.c_uint32
 for call, *arguments in [
@@ -37,8 +50,6 @@ def refused(answer):
     return f"refused {-answer}: {REFUSALS[-answer - 1]}"
 
 
-with open(file, "rb") as opened:
-    archive = opened.read()
 certified = fieldmap.fieldmap_certify(archive, len(archive))
 count = certified if certified >= 0 else fieldmap.fieldmap_check(archive, len(archive))
 if count < 0:

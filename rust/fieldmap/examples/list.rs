@@ -1,7 +1,7 @@
 //! `list FILE` prints the list of an archive: `certified`, or `open` if it is only accepted, and the count; then key and value a line.
 //!
-//! Why an archive is open goes to standard error. A refused archive prints its refusal, and the program ends with 1, as it does where the file
-//! cannot be read. A reader that closes the pipe early ends the list.
+//! Why an archive is open goes to standard error. A refused archive prints its refusal, and the program ends with 1. It ends with 2 where the
+//! file cannot be read or the text not written. A reader that closes the pipe early ends the list.
 
 use std::io::{self, ErrorKind, Write};
 use std::process::ExitCode;
@@ -18,7 +18,7 @@ fn main() -> ExitCode {
         Ok(bytes) => bytes,
         Err(error) => {
             eprintln!("{}: {error}", file.to_string_lossy());
-            return ExitCode::FAILURE;
+            return ExitCode::from(2);
         }
     };
     let (text, code) = match Archive::check(&bytes) {
@@ -28,7 +28,7 @@ fn main() -> ExitCode {
     match io::stdout().write_all(text.as_bytes()) {
         Err(error) if error.kind() != ErrorKind::BrokenPipe => {
             eprintln!("standard output: {error}");
-            ExitCode::FAILURE
+            ExitCode::from(2)
         }
         _ => code,
     }

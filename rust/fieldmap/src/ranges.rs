@@ -58,8 +58,9 @@ pub fn range(
 /// | a from 0 on, b below 0 | the points with x from a on and those with x up to b |
 ///
 /// A range with an end that is excluded or open gives what `a..=b` does, a and b being the first and the last x in it: `-9..0` is `-9..=-1`,
-/// `5..` is `5..=127`, and `-9..` is `-9..=127`, which gives nothing. Where no x is in it, as in `3..3`, `0..0`, past 127, or in an inclusive
-/// range that has been iterated to its end, nothing matches. `..` gives all points of the eye.
+/// `5..` is `5..=127`, and `-9..` is `-9..=127`, which gives nothing. Where no x is in such a range, as in `3..3`, `0..0` or past 127, nothing
+/// matches, nor does anything in a range `a..=b`, a up to b, that has been iterated to its end. `a..=b` with a from 0 on and b below 0 holds no x
+/// either, but is the last row of the table. `..` gives all points of the eye.
 ///
 /// # Errors
 ///

@@ -233,7 +233,7 @@ fn arguments() {
     assert_eq!(answer(program("list").output().unwrap()).0, 2);
     let none = path("examples/none.fieldmap");
     for (code, text, errors) in [list(&none), sheet(&none, "1", "right")] {
-        assert_eq!((code, &*text), (1, ""));
+        assert_eq!((code, &*text), (2, ""));
         assert!(errors.contains("none.fieldmap: "));
     }
 }

@@ -7,7 +7,7 @@
 //!
 //! A map is drawn from certified archives only. Of a refused or open archive, or where the eye has no point, the picture has nothing but the
 //! reason, which goes to standard error as well, and the program ends with 1. It ends with 0 where a map is drawn and with 2 where the
-//! arguments are not understood.
+//! arguments are not understood, the file cannot be read or the picture not written.
 
 mod field;
 mod frame;
@@ -31,7 +31,7 @@ fn main() -> ExitCode {
         Ok(bytes) => bytes,
         Err(error) => {
             eprintln!("{}: {error}", file.display());
-            return ExitCode::FAILURE;
+            return ExitCode::from(2);
         }
     };
     let (svg, code) = match field::points(&bytes, examination, eye) {
@@ -44,7 +44,7 @@ fn main() -> ExitCode {
     match io::stdout().write_all(svg.as_bytes()) {
         Err(error) if error.kind() != ErrorKind::BrokenPipe => {
             eprintln!("standard output: {error}");
-            ExitCode::FAILURE
+            ExitCode::from(2)
         }
         _ => code,
     }

@@ -132,6 +132,20 @@ fn ranges_without_an_x() {
     assert_eq!(column(&bytes, (Unbounded, Excluded(-128))), []);
 }
 
+/// A range from a down to b below 0 holds no x and cannot be iterated, but is a column that runs around.
+#[test]
+fn inclusive_ranges_that_run_around() {
+    let keys = points();
+    let bytes = archive(&keys);
+    for (a, b) in [(0, -1), (1, -2), (127, -128)] {
+        let wanted = chosen(&keys, |x| x >= a || x <= b);
+        assert_eq!(column(&bytes, a..=b), wanted);
+        let mut iterated = a..=b;
+        assert_eq!(iterated.next(), None);
+        assert_eq!(column(&bytes, iterated), wanted);
+    }
+}
+
 #[test]
 fn refused_whatever_the_range() {
     let bytes = archive(&points());
