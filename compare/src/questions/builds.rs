@@ -229,7 +229,9 @@ fn build(header: u64, room: Room, keys: &List, values: &List) -> Question {
     values.put(&mut bytes);
 
     let mut output = vec![BEFORE; room];
-    let mut lines = Vec::new();
+    let mut lines = vec![line("length", needed(given_keys.len(), header), |end| {
+        end.to_string()
+    })];
     let answer = fault.map_or_else(|| Ok(archive()), Err);
     if let Ok(archive) = &answer {
         output[..archive.len()].copy_from_slice(archive);
@@ -239,6 +241,18 @@ fn build(header: u64, room: Room, keys: &List, values: &List) -> Question {
     lines.extend(count.map(|count| format!("certify {count}")));
     lines.push(format!("checksum {}", checksum(&output)));
     Question { bytes, lines }
+}
+
+/// How long an output has to be for so many entries: where rkyv's archive of others, as many, ends.
+fn needed(count: usize, header: u64) -> Result<usize, u8> {
+    if count > 40_000 {
+        return Err(11);
+    }
+    if header > 4_096 {
+        return Err(13);
+    }
+    let numbers: Vec<u64> = (0..count as u64).collect();
+    Ok(rkyv_map::build(&vec![BEFORE; header as usize], &numbers, &numbers).len())
 }
 
 /// The bytes as the digits of a number in base 1,000,003, the first one the highest: its remainder by the largest prime below 2^32.

@@ -33,8 +33,17 @@ fn print_certified(archive: &[u8]) {
     print_checked(fieldmap::certify(archive));
 }
 
-// The answer, what certify says of the archive, and the checksum of the whole output.
+fn print_length(entries: usize, header: usize) {
+    print(b"length ");
+    match fieldmap::build_length(entries, header) {
+        BuildAnswer::Refused(why) => print_refused(why),
+        BuildAnswer::Built(end) => print_line(end as u64),
+    }
+}
+
+// The length that as many entries as there are keys need, the answer, what certify says of the archive, and the checksum of the whole output.
 fn build(out: &mut [u8], header: usize, keys: &[u64], values: &[u64]) {
+    print_length(keys.len(), header);
     print(b"build ");
     match fieldmap::build(out, header, keys, values) {
         BuildAnswer::Refused(why) => print_refused(why),

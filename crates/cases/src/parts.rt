@@ -15,8 +15,6 @@ use fields::ser::writer::Aligned;
 use format::Refusal;
 use perimetry::key::KeyFields;
 use perimetry::key::Packed;
-use perimetry::value::is_seen;
-use perimetry::value::threshold;
 ghost use mathlib.Core.Path.{_≡_};
 
 fn wide8(z: i8) -> i64
@@ -109,8 +107,8 @@ pub fn replay_unpack() {
 pub fn replay_value() {
     let value = next_u64();
     print(b"value ");
-    if is_seen(value) {
+    if fieldmap::seen(value) {
         print(b"seen ");
     }
-    print_line(threshold(value) as u64);
+    print_line(fieldmap::threshold(value) as u64);
 }

@@ -21,6 +21,7 @@ build-spec =
     (search needs)
     (search needs)
     (search needs)
+    (search needs)
     slice-aggregate-print-certified
     (search needs)
     (search needs)
