@@ -149,6 +149,9 @@ static void read_column(void)
     EXPECT(fieldmap_build(archive, 104, 0, points, 3, points, 3) == 104);
     EXPECT(fieldmap_column(archive, 104, 4, 1, -1, -1, found, 3, theirs, 3, &matching.number) == 1);
     EXPECT(found[0] == points[2] && theirs[0] == points[2] && found[1] == BEFORE && matching.number == 1);
+    EXPECT(fieldmap_column(archive, 104, 4, 1, -1, 1, found, 3, theirs, 3, &matching.number) == 0 && matching.number == 0);
+    EXPECT(fieldmap_column(archive, 104, 4, 1, 1, -1, found, 3, theirs, 3, &matching.number) == 2 && matching.number == 2);
+    EXPECT(fieldmap_column(archive, 104, 4, 1, 0, -1, found, 3, theirs, 3, &matching.number) == 3 && matching.number == 3);
     EXPECT(fieldmap_column(archive, 104, 4, 1, 0, 1, found, 3, theirs, 3, &matching.number) == 2 && matching.number == 2);
     REFUSED(fieldmap_column(archive, 104, 4, 2, 0, 1, found, 3, theirs, 3, &matching.number), FIELDMAP_KEY_FIELD_OVERFLOW);
     EXPECT(matching.number == 2 && kept(&matching));
