@@ -4,6 +4,7 @@ mod archives;
 mod by_hand;
 mod columns;
 mod document_01;
+mod given;
 mod header;
 mod keys;
 mod open_archives;
