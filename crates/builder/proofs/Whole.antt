@@ -5,7 +5,7 @@ use mathlib.Core.List.{List, [], _∷_, _++_}
 use Prim.Native.Nat.{ℕ, zero, suc, _+_, _-_, _^_, _≤_, _<_}
 use native.Mathlib.Omega.{arith}
 use native.Mathlib.Nat.{not-suc-le-zero}
-use lib.ListN.{length, replicate, length-append, length-replicate}
+use lib.ListN.{length, replicate, length-replicate}
 use Rattle.format.specs.declared.Child.{Child}
 use Rattle.format.specs.declared.Child.the-variants.{Absent}
 use Rattle.format.specs.Layout.{layout32}
@@ -15,14 +15,13 @@ use Rattle.format.specs.Align.{isAlignment, zerosTo, Step, alignStep}
 use Rattle.format.specs.Laws.Numbers.Align.{alignment-pos, step-given, zeros-lt}
 use Rattle.format.specs.Tree.{Pair, Branch, noneB, someB, lengthBranch, childOf, writeBranch}
 use Rattle.format.specs.Build.{height, lastLevel, treeOf, firstAlign, recordBytes, behind, pairs}
-use Rattle.format.specs.Laws.Numbers.Bytes.{length-leBytes}
-use Rattle.format.specs.Laws.Build.Laid.{length-offset}
+use Rattle.format.specs.Laws.Build.Laid.{length-writeBranch}
+use Rattle.format.specs.Laws.Build.Lengths.{behind-length}
 use Rattle.format.specs.Laws.Build.Trees.{There}
 use Rattle.format.specs.Laws.Build.Streaming.{tree-there}
 use Rattle.format.specs.Laws.Build.Built32.{length-pairs}
 use Rattle.builder.specs.Size.{weight, endOf}
 use Rattle.nodes.proofs.Laws.{join}
-use Rattle.serialize.proofs.Whole.{tree-size}
 use Rattle.builder.proofs.Weights.{tree-weighs}
 
 module _ (ks vs : List ℕ) (same : length ks ≡ length vs) (p : 0 < length ks) (few : length ks ≤ 40000) where
@@ -74,14 +73,9 @@ behind-by b a ea h n out o₁ o₂ o₃ size e₁ e₂ e₃ =
         let q = h + zerosTo x h in
         replicate (zerosTo x h) 0 ++ (writeBranch layout32 b q ++ recordBytes layout32 (q + lengthBranch layout32 b) (childOf layout32 b q) n)
 
-behind-length : (b : Branch) (a : ℕ) → firstAlign layout32 b ≡ a → (h n : ℕ) → ((p : ℕ) → length (writeBranch layout32 b p) ≡ lengthBranch layout32 b)
-    → length (behind layout32 h b n) ≡ zerosTo a h + lengthBranch layout32 b + 8
-unfolding behind
-behind-length b a ea h n size = simp (length-append, length-replicate, length-offset, length-leBytes, size) (omega (arith, ap (λ (x : ℕ). zerosTo x h) ea))
-
 pub end-none : (h : ℕ) → h + length (behind layout32 h noneB 0) ≡ endOf 0 h
 unfolding endOf
-end-none h = omega (arith, behind-length noneB 4 refl h 0 (λ p. refl))
+end-none h = omega (arith, behind-length layout32 h 0 noneB)
 
 end-some : (n h : ℕ) → 0 < n → endOf n h ≡ h + zerosTo 8 h + weight (height layout32 n - 1) (lastLevel layout32 n) + 8
 unfolding endOf
@@ -99,10 +93,10 @@ unfolding treeOf
 end-is [] vs same few h = end-none h
 end-is (k ∷ ks) vs same few h =
     let b = treeOf layout32 (pairs (k ∷ ks) vs) in
-    let t = tree-size (k ∷ ks) vs same (omega arith) few in
-    let l = behind-length b 8 (some-align (k ∷ ks) vs same (omega arith) few) h (length (k ∷ ks)) t in
+    let l = behind-length layout32 h (length (k ∷ ks)) b in
+    let a = ap (λ (x : ℕ). zerosTo x h) (some-align (k ∷ ks) vs same (omega arith) few) in
     let e = end-tree (k ∷ ks) vs same (omega arith) few h in
-    omega (arith, l, e)
+    omega (arith, l, a, e)
 
 -- ---- by what the calls answered
 
@@ -164,7 +158,7 @@ some-by ks vs same p few h s q c out o₁ o₂ o₃ es eq ec e₁ e₂ e₃ =
     let n = length ks in
     let eq′ : q ≡ x + lengthBranch layout32 b = eq ∙ ap (λ (i : ℕ). i + lengthBranch layout32 b) es in
     let ec′ : c ≡ childOf layout32 b x = ec ∙ ap (childOf layout32 b) es in
-    behind-by b 8 (some-align ks vs same p few) h n out o₁ o₂ o₃ (tree-size ks vs same p few x)
+    behind-by b 8 (some-align ks vs same p few) h n out o₁ o₂ o₃ (length-writeBranch layout32 b x)
     (e₁ ∙ ap (λ (i : ℕ). put out h (replicate (i - h) 0)) es)
     (e₂ ∙ ap (λ (i : ℕ). put o₁ i (writeBranch layout32 b i)) es)
     (e₃ ∙ ap₂ (λ (i : ℕ) (y : Child). put o₂ i (recordBytes layout32 i y n)) eq′ ec′)

@@ -6,7 +6,7 @@ use Prim.Native.Nat.{ℕ, zero, suc, _+_, _-_, _*_, _/_, _^_, _≤_, _<_}
 use native.Mathlib.Omega.{arith}
 use native.Mathlib.Nat.{not-suc-le-zero, pow-suc}
 use borrow.Author.Tests.{lt-ltb, le-ltb}
-use lib.ListN.{length, replicate, length-replicate}
+use lib.ListN.{length, replicate}
 use lib.Dec.{lit<, lit≤}
 use Rattle.format.specs.declared.Child.{Child}
 use Rattle.nodes.specs.declared.inline_vec.ChildPos.{ChildPos}
@@ -125,14 +125,6 @@ module _ (ks vs : List ℕ) (same : length ks ≡ length vs) (p : 0 < length ks)
       let el : length (pairs ks vs) ≡ length ks = length-pairs ks vs same in
       let w = wrote-all ks vs out at same (pairs ks vs) refl (omega arith) (omega arith) r in
       rw (ei, eq, ed, ← el) w
-
-  -- The tree's length, wherever it is written.
-  pub tree-size : (at : ℕ) → length (writeBranch layout32 tree at) ≡ lengthBranch layout32 tree
-  tree-size at =
-      let el : length (pairs ks vs) ≡ length ks = length-pairs ks vs same in
-      let room : List ℕ = replicate (at + lengthBranch layout32 tree) 0 in
-      let er : length room ≡ at + lengthBranch layout32 tree = length-replicate (at + lengthBranch layout32 tree) 0 in
-      wrote-all ks vs room at same (pairs ks vs) refl (omega arith) (omega arith) (omega arith) .size
 
 -- ---- the record
 

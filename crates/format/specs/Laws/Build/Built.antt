@@ -132,7 +132,7 @@ module _ (L : Layout) where
 
     length-W : WfBranch L b → length W ≡ lengthBranch L b
     unfolding W
-    length-W w = length-writeBranch L b p w
+    length-W w = length-writeBranch L b p
 
     length-R : length R ≡ pointer L
     unfolding R

@@ -38,7 +38,7 @@ module _ (L : Layout) where
   length-emplaced (gives z) = length-leBytes _ _
   length-emplaced (refuses r) = length-leBytes _ _
 
-  pub length-head : (k : ℕ) (es : List Pair) → length (head L k es) ≡ headSize L
+  length-head : (k : ℕ) (es : List Pair) → length (head L k es) ≡ headSize L
   unfolding head
   length-head k es = simp (length-append, length-column) (omega arith)
 
@@ -48,10 +48,6 @@ module _ (L : Layout) where
 
   length-fieldB : (k : Branch) (b f : ℕ) → length (fieldB L k b f) ≡ pointer L
   length-fieldB k b f = length-offset f (childOf L k b)
-
-  length-fieldsB : (ks : Branches) (b f : ℕ) → length (fieldsB L ks b f) ≡ pointer L * suc (length (own ks))
-  length-fieldsB (lastB k) b f = omega (arith, length-fieldB k b f)
-  length-fieldsB (moreB k e ks) b f = simp (length-append, length-fieldB) (omega (arith, length-fieldsB ks (b + lengthBranch L k) (f + pointer L)))
 
   -- ---- the bytes of an inner node, by its branches
 
@@ -86,25 +82,28 @@ module _ (L : Layout) where
       (sym (append-assoc (lesserBytes L f (L .entries) ls) (offsetBytes L (f + pointer L * L .entries) g) innerPad)
       ∙ ap (λ (l : List ℕ). l ++ innerPad) (ap (λ (n : ℕ). lesserBytes L f n ls ++ offsetBytes L (f + pointer L * n) g) (sym e) ∙ lesser-fields bs p f))
 
+  -- ---- the length of what is written
+
+  length-lesser : (f n : ℕ) (cs : List Child) → length (lesserBytes L f n cs) ≡ pointer L * n
+  length-lesser f zero cs = omega arith
+  length-lesser f (suc n) [] = simp (length-append, length-replicate) (omega (arith, length-lesser (f + pointer L) n []))
+  length-lesser f (suc n) (c ∷ cs) = simp (length-append, length-offset) (omega (arith, length-lesser (f + pointer L) n cs))
+
   mutual
-    unfolding leafBytes
+    unfolding leafBytes innerBytes
 
-    pub length-writeT : (t : Tree) (b : ℕ) → WfT L t → length (writeT L t b) ≡ lengthT L t
-    length-writeT (leafT es) b w = simp (length-append, length-head, length-leBytes, length-replicate) (omega arith)
-    length-writeT (innerT ks) b w =
-        let h = length-writeBranches ks b (w .1) in
-        let p = b + lengthBranches L ks in
-        length-append (writeBranches L ks b) (innerBytes L p (slotsOf L ks b) (greaterOf L ks b))
-        ∙ ap (λ (l : List ℕ). length (writeBranches L ks b) + length l) (inner-fields ks b p (w .0))
-        ∙ simp (length-append, length-head, length-replicate, length-fieldsB, w .0) (omega arith)
+    length-writeT : (t : Tree) (b : ℕ) → length (writeT L t b) ≡ lengthT L t
+    length-writeT (leafT es) b = simp (length-append, length-head, length-leBytes, length-replicate) (omega arith)
+    length-writeT (innerT ks) b =
+        simp (length-append, length-head, length-lesser, length-offset, length-replicate) (omega (arith, length-writeBranches ks b))
 
-    length-writeBranches : (ks : Branches) (b : ℕ) → WfBranches L ks → length (writeBranches L ks b) ≡ lengthBranches L ks
-    length-writeBranches (lastB k) b w = length-writeBranch k b w
-    length-writeBranches (moreB k e ks) b w = simp length-append (omega (arith, length-writeBranch k b (w .0), length-writeBranches ks (b + lengthBranch L k) (w .2)))
+    length-writeBranches : (ks : Branches) (b : ℕ) → length (writeBranches L ks b) ≡ lengthBranches L ks
+    length-writeBranches (lastB k) b = length-writeBranch k b
+    length-writeBranches (moreB k e ks) b = simp length-append (omega (arith, length-writeBranch k b, length-writeBranches ks (b + lengthBranch L k)))
 
-    pub length-writeBranch : (k : Branch) (b : ℕ) → WfBranch L k → length (writeBranch L k b) ≡ lengthBranch L k
-    length-writeBranch noneB b w = refl
-    length-writeBranch (someB t) b w = length-writeT t b w
+    pub length-writeBranch : (k : Branch) (b : ℕ) → length (writeBranch L k b) ≡ lengthBranch L k
+    length-writeBranch noneB b = refl
+    length-writeBranch (someB t) b = length-writeT t b
 
 stands-bytes : {s : List ℕ} {p : ℕ} {xs ys : List ℕ} → xs ≡ ys → Stands s p xs → Stands s p ys
 stands-bytes {s} {p} e a = subst (Stands s p) e a
@@ -272,7 +271,7 @@ module _ (L : Layout) (s : List ℕ) where
         let fs : List ℕ = fieldsB L ks b (p + headSize L) in
         let node : List ℕ = innerBytes L p (slotsOf L ks b) (greaterOf L ks b) in
         let a₁ : Stands s p (head L 1 (own ks) ++ (fs ++ pad)) =
-        stands-bytes (inner-fields L ks b p (w .0)) (stands-next (writeBranches L ks b) (ap (λ (x : ℕ). b + x) (length-writeBranches L ks b (w .1))) a) in
+        stands-bytes (inner-fields L ks b p (w .0)) (stands-next (writeBranches L ks b) (ap (λ (x : ℕ). b + x) (length-writeBranches L ks b)) a) in
         let (e1, c, r) = head-at L s p 1 (own ks) (fs ++ pad) a₁ in
         inner-laid ks d b lo hi w hl (omega arith) h8 (ap kindOf e1)
         (branches-laid ks d b lo p (L .entries) 0 (p + headSize L) (omega arith) small (w .1) (w .0) (omega arith) hl (omega arith) h8 (omega arith) c (stands-left fs pad r) (stands-left (writeBranches L ks b) node a))
@@ -291,7 +290,7 @@ module _ (L : Layout) (s : List ℕ) where
         more-laid x e ks d b lo p k i R (w .1) c
         (branches-laid ks d (b + lengthBranch L x) (R .stop) p k (suc i) (f + pointer L) (omega arith) small (w .2) (omega arith) (omega arith) mv (omega arith) (omega arith) (omega arith)
         (cols-next L s p i k e (own ks) c) (stands-next (fieldB L x b f) (ap (λ (y : ℕ). f + y) (length-fieldB L x b f)) af)
-        (stands-next (writeBranch L x b) (ap (λ (y : ℕ). b + y) (length-writeBranch L x b (w .0))) ab))
+        (stands-next (writeBranch L x b) (ap (λ (y : ℕ). b + y) (length-writeBranch L x b)) ab))
 
     branch-laid′ : (k : Branch) (d b lo hi f : ℕ) → L .entries < 65536 → WfBranch L k → depthBranch k ≤ d → lo ≤ b → b + lengthBranch L k ≤ hi → hi ≤ f → b % 8 ≡ 0 → (2 * f ≤ 256 ^ pointer L + 2 * b) × (f < 2 ^ 63)
         → Stands s f (fieldB L k b f) → Stands s b (writeBranch L k b) → BranchRes k d b lo hi f

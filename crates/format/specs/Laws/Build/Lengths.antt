@@ -9,45 +9,20 @@ use native.Mathlib.Nat.{suc-ne-zero, suc-inj}
 use lib.Dec.{leb}
 use lib.ListN.{length, length-append, length-replicate, length-drop}
 use borrow.Author.Tests.{le-leb, eq-eqb}
-use Rattle.format.specs.declared.Child.{Child}
 use Rattle.format.specs.Layout.{Layout, pointer}
 use Rattle.format.specs.Refusal.{gives, provided, andThen}
 use Rattle.format.specs.Align.{zerosTo}
-use Rattle.format.specs.Tree.{Pair, Tree, leafT, innerT, Branches, lastB, moreB, Branch, noneB, someB, lengthT, lengthBranches, lengthBranch}
-use Rattle.format.specs.Tree.{lesserBytes, leafBytes, innerBytes, writeT, writeBranches, writeBranch}
+use Rattle.format.specs.Tree.{Pair, Branch, lengthBranches, lengthBranch}
 use Rattle.format.specs.Build.{Filled, FilledBranches, closed, fillNext, fillBranches, fill, height, lastLevel, treeOf}
 use Rattle.format.specs.Build.{firstAlign, behind, pairs, rises, build, buildLength}
 use Rattle.format.specs.Laws.Numbers.Bytes.{length-leBytes}
-use Rattle.format.specs.Laws.Build.Laid.{length-head, length-offset}
+use Rattle.format.specs.Laws.Build.Laid.{length-offset, length-writeBranch}
 use Rattle.format.specs.Laws.Build.Built32.{length-pairs, taken}
 
--- ---- the length of what is written
-
 module _ (L : Layout) where
-  length-lesser : (f n : ℕ) (cs : List Child) → length (lesserBytes L f n cs) ≡ pointer L * n
-  length-lesser f zero cs = omega arith
-  length-lesser f (suc n) [] = simp (length-append, length-replicate) (omega (arith, length-lesser (f + pointer L) n []))
-  length-lesser f (suc n) (c ∷ cs) = simp (length-append, length-offset) (omega (arith, length-lesser (f + pointer L) n cs))
-
-  mutual
-    unfolding leafBytes innerBytes
-
-    written-T : (t : Tree) (p : ℕ) → length (writeT L t p) ≡ lengthT L t
-    written-T (leafT es) p = simp (length-append, length-head, length-leBytes, length-replicate) (omega arith)
-    written-T (innerT bs) p =
-        simp (length-append, length-head, length-lesser, length-offset, length-replicate) (omega (arith, written-branches bs p))
-
-    written-branches : (bs : Branches) (p : ℕ) → length (writeBranches L bs p) ≡ lengthBranches L bs
-    written-branches (lastB b) p = written b p
-    written-branches (moreB b e bs) p = simp length-append (omega (arith, written b p, written-branches bs (p + lengthBranch L b)))
-
-    written : (b : Branch) (p : ℕ) → length (writeBranch L b p) ≡ lengthBranch L b
-    written noneB p = refl
-    written (someB t) p = written-T t p
-
   pub behind-length : (h n : ℕ) (b : Branch) → length (behind L h b n) ≡ zerosTo (firstAlign L b) h + lengthBranch L b + 2 * pointer L
   unfolding behind
-  behind-length h n b = simp (length-append, length-replicate, length-offset, length-leBytes, written) (omega arith)
+  behind-length h n b = simp (length-append, length-replicate, length-offset, length-leBytes, length-writeBranch) (omega arith)
 
 -- ---- the tree's length, by the number of entries
 

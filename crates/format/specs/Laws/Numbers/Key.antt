@@ -13,11 +13,15 @@ use lib.IntN.{ℤ, pos, negsuc}
 use lib.Signed.{mag, nonNeg, _≤ℤ_}
 use Rattle.format.specs.declared.Entry.{Entry}
 use Rattle.format.specs.declared.Bound.the-variants.{Included}
-use Rattle.format.specs.Refusal.{gives, refuses}
+use Rattle.format.specs.Refusal.{Answer, gives, refuses}
 use Rattle.format.specs.Signed.{twos, ofTwos}
-use Rattle.format.specs.Key.{keyOf, packKey, KeyFields, fieldsOf, OfEye, Column, columnBounds}
+use Rattle.format.specs.Key.{keyOf, packKey, KeyFields, fieldsOf, OfEye, OneSide, Column, columnBounds}
 use Rattle.format.specs.Range.{matches}
 use Rattle.format.specs.Laws.Numbers.Signed.{twos-lt, ofTwos-low, ofTwos-high, ofTwos-twos, twos-ofTwos}
+
+-- An answer that gives something is not refused.
+not-both : {A : Type 0} {a : Answer A} {x : A} {r : ℕ} → a ≡ gives x → a ≡ refuses r → ⊥
+not-both e f = let z : _≡_ {A = ℕ} 0 1 = cc in omega arith
 
 pub pack-no-exam : (exam eye : ℕ) (x y : ℤ) (pres : ℕ) → 2 ^ 24 ≤ exam → packKey exam eye x y pres ≡ refuses 18
 unfolding packKey
@@ -63,9 +67,6 @@ pub unpack-pack : (exam eye : ℕ) (x y : ℤ) (pres k : ℕ) → mag x < 128 �
     → fieldsOf k ≡ record { examination = exam; eye = eye; x = x; y = y; presentation = pres }
 unpack-pack exam eye x y pres k hx hy e = go (decLt exam (2 ^ 24)) (decLt eye 2) (decLt pres (2 ^ 23))
   where
-    refused≢gives : packKey exam eye x y pres ≡ refuses 18 → ⊥
-    refused≢gives r = let z : _≡_ {A = ℕ} 0 1 = cc in omega arith
-
     all : exam < 2 ^ 24 → eye < 2 → pres < 2 ^ 23 → fieldsOf k ≡ record { examination = exam; eye = eye; x = x; y = y; presentation = pres }
     all h₁ h₂ h₃ =
         let bx = twos-lt 7 x hx in
@@ -80,9 +81,9 @@ unpack-pack exam eye x y pres k hx hy e = go (decLt exam (2 ^ 24)) (decLt eye 2)
         (pres-of exam eye (twos 7 x) (twos 7 y) pres h₁ h₂ bx by h₃))
 
     go : Dec (exam < 2 ^ 24) → Dec (eye < 2) → Dec (pres < 2 ^ 23) → fieldsOf k ≡ record { examination = exam; eye = eye; x = x; y = y; presentation = pres }
-    go (no h) b c = absurd (refused≢gives (pack-no-exam exam eye x y pres (omega arith)))
-    go (yes g) (no h) c = absurd (refused≢gives (pack-no-eye exam eye x y pres g (omega arith)))
-    go (yes f) (yes g) (no h) = absurd (refused≢gives (pack-no-pres exam eye x y pres f g (omega arith)))
+    go (no h) b c = absurd (not-both e (pack-no-exam exam eye x y pres (omega arith)))
+    go (yes g) (no h) c = absurd (not-both e (pack-no-eye exam eye x y pres g (omega arith)))
+    go (yes f) (yes g) (no h) = absurd (not-both e (pack-no-pres exam eye x y pres f g (omega arith)))
     go (yes f) (yes g) (yes h) = all f g h
 
 -- Packing the fields of a key gives the key.
@@ -109,10 +110,6 @@ module _ (exam eye : ℕ) (a b : ℤ) where
   column-given l u g h e f = rw (lt-ltb exam (2 ^ 24) g, lt-ltb eye 2 h, e, f)
 
 -- ---- what a column query gives
-
--- Both from 0 on, or both below 0.
-abbrev pub OneSide : ℤ → ℤ → Type 0
-OneSide a b = nonNeg a ≡ nonNeg b
 
 module _ (exam eye a b k : ℕ) (h₁ : exam < 2 ^ 24) (h₂ : eye < 2) (h₃ : a < 256) (h₄ : b < 256) where
   -- The keys between the ends, by the bits of x.
@@ -182,12 +179,9 @@ module _ (exam eye : ℕ) (a b : ℤ) (ha : mag a < 128) (hb : mag b < 128) (c :
   ends : (exam < 2 ^ 24) × (eye < 2) × (c ≡ record { lower = Included low; upper = Included high })
   ends = go (decLt exam (2 ^ 24)) (decLt eye 2)
     where
-      given : columnBounds exam eye a b ≡ refuses 18 → ⊥
-      given r = let z : _≡_ {A = ℕ} 0 1 = cc in omega arith
-
       go : Dec (exam < 2 ^ 24) → Dec (eye < 2) → (exam < 2 ^ 24) × (eye < 2) × (c ≡ record { lower = Included low; upper = Included high })
-      go (no h) d = absurd (given (column-no-exam exam eye a b (omega arith)))
-      go (yes f) (no h) = absurd (given (column-no-eye exam eye a b f (omega arith)))
+      go (no h) d = absurd (not-both g (column-no-exam exam eye a b (omega arith)))
+      go (yes f) (no h) = absurd (not-both g (column-no-eye exam eye a b f (omega arith)))
       go (yes f) (yes h) = let z = column-given exam eye a b low high f h refl refl in (f, h, cc)
 
   module _ (e : Entry) where
