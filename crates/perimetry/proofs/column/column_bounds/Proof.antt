@@ -14,10 +14,11 @@ returns c = ⊎-elim (λ t. search laws) (λ t. search laws) (c .if1 .came)
 
 returns-2 : tie.Need-returns-2
 returns-2 c =
-    let s = c .before .before .before .before .before .before in
-    sym (column-given _ _ (s .args .a) (s .args .b) _ _ (search needs) (search needs)
-    (rw (c .before .before .key-of .ensures, c .before .before .before .bits8 .ensures, toZ-ofZ (s .fits .a)))
-    (rw (c .key-of2 .ensures, c .before .bits82 .ensures, toZ-ofZ (s .fits .b))))
+    let low : tie.After-key-of = search in
+    let start : tie.Start = search in
+    sym (column-given _ _ (start .args .a) (start .args .b) _ _ (search needs) (search needs)
+    (rw (low .key-of .ensures, low .before .bits8 .ensures, toZ-ofZ (start .fits .a)))
+    (rw (c .key-of2 .ensures, c .before .bits82 .ensures, toZ-ofZ (start .fits .b))))
 
 pub column-bounds-spec : {M : Type 1} → statement M
 column-bounds-spec =
