@@ -1,28 +1,17 @@
--- Signed numbers of the machine: a wider type, and the magnitude. Assumes nothing.
+-- The magnitude of a signed number of the machine. Assumes nothing.
 use mathlib.Core.Path.{_≡_, refl, sym, ap, subst, _∙_}
 use mathlib.Core.Bool.{true, false, true≢false}
-use Prim.Native.Nat.{ℕ, zero, suc, _+_, _-_, _^_, _≤_, _<_}
-use native.Mathlib.Nat.{lt-of-lt-of-le}
+use Prim.Native.Nat.{suc, _+_, _<_}
 use native.Mathlib.Numerals.{add-one}
 use native.Mathlib.Omega.{arith}
 use borrow.Author.Needs.{sfits-of}
 use borrow.Author.Tests.{ltb-true, le-ltb}
 use lib.Dec.{T}
 use lib.IntN.{ℤ, pos, negsuc, natAbs, _-ℤ_}
-use lib.Pow.{pow-mono}
 use lib.Signed.{mag, nonNeg, ltZ}
-use mir.Syntax.{Width, w64}
-use mir.Val.{Fits, SFits, hbits, toZ, ofZ}
+use mir.Syntax.{w64}
+use mir.Val.{Fits, SFits, toZ, ofZ}
 use mir.Facts.{toZ-ofZ}
-
--- ---- a narrower number in 64 bits
-
-module _ (w : Width) (z : ℤ) (s : hbits w < 63) (f : SFits w z) where
-  pub widened-fits : SFits w64 (toZ w (ofZ w z))
-  widened-fits = rw (toZ-ofZ f) (sfits-of (lt-of-lt-of-le (f .sfits) (pow-mono {i = hbits w} {j = 63} (omega arith))))
-
-  pub widened : toZ w64 (ofZ w64 (toZ w (ofZ w z))) ≡ z
-  widened = toZ-ofZ widened-fits ∙ toZ-ofZ f
 
 -- ---- -1 - z where z is below 0, and one more
 

@@ -1,7 +1,7 @@
 -- The checksum's loop, byte by byte. Assumes nothing.
 use mathlib.Core.Path.{_≡_, sym, ap, _∙_}
-use mathlib.Core.List.{List, [], _∷_}
-use Prim.Native.Nat.{ℕ, suc, _+_, _*_, _%_, _≤_, _<_}
+use mathlib.Core.List.{List, _∷_}
+use Prim.Native.Nat.{ℕ, _+_, _*_, _%_, _≤_, _<_}
 use native.Mathlib.Omega.{arith}
 use native.Mathlib.Numerals.{add-one}
 use lib.ListN.{length, getD, drop, drop-of-length-le}
@@ -12,11 +12,12 @@ use Rattle.cases.specs.Checksum.{step, checksumFrom}
 abbrev pub Sums : List ℕ → ℕ → ℕ → Type 0
 Sums bs r i = (r < 4294967291) × (checksumFrom r (drop i bs) ≡ checksumFrom 0 bs)
 
-pub sums-more : (bs : List ℕ) (r i r′ b : ℕ) → i < length bs → b ≡ getD bs i 0 → r′ ≡ (r * 1000003 + b) % 4294967291 → Sums bs r i → Sums bs r′ (i + 1)
+pub sums-more : (bs : List ℕ) (r i r′ b : ℕ) → i < length bs → b ≡ getD bs i 0 → r′ ≡ (r * 1000003 + b) % 4294967291 → Sums bs r i
+    → Sums bs r′ (i + 1)
 unfolding step checksumFrom
 sums-more bs r i r′ b h e q s =
-    let d : drop i bs ≡ getD bs i 0 ∷ drop (i + 1) bs = drop-cons bs i 0 h ∙ ap (λ (j : ℕ). getD bs i 0 ∷ drop j bs) (sym (add-one i)) in
-    (omega arith, ap (λ (x : ℕ). checksumFrom x (drop (i + 1) bs)) (q ∙ ap (λ (x : ℕ). (r * 1000003 + x) % 4294967291) e) ∙ sym (ap (checksumFrom r) d) ∙ s .1)
+    let d : drop i bs ≡ getD bs i 0 ∷ drop (i + 1) bs = rw (add-one, drop-cons bs i 0) in
+    (omega arith, rw (q, e) (sym (ap (checksumFrom r) d) ∙ s .1))
 
 pub sums-all : (bs : List ℕ) (r i : ℕ) → length bs ≤ i → Sums bs r i → r ≡ checksumFrom 0 bs
 unfolding checksumFrom

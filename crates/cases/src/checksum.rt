@@ -1,7 +1,7 @@
 // A number that stands for all bytes of an output.
 ghost use mathlib.Core.Path.{_≡_};
 ghost use Prim.Native.Nat.{_<_};
-ghost use Rattle.cases.specs.Checksum.{checksum, step};
+ghost use Rattle.cases.specs.Checksum.{checksum};
 
 struct Digits;
 

@@ -7,7 +7,9 @@ use Rattle.cases.proofs.archives.check_longest.Statement.{statement}
 use Rattle.cases.proofs.archives.check_longest.Tie as tie
 
 slice-aggregate-check : tie.Need-slice-aggregate-check
-slice-aggregate-check c = sym (length-take-le 1048576 (c .before .before .before .before .before .before .before .before .before .args .bytes .now) (omega arith))
+slice-aggregate-check c =
+    let start : tie.Start = search in
+    sym (length-take-le 1048576 (start .args .bytes .now) (omega arith))
 
 pub check-longest-spec : {M : Type 1} → statement M
 check-longest-spec =

@@ -6,9 +6,6 @@ use borrow.Author.Needs.{needs}
 use Rattle.cases.proofs.archives.replay_case.Statement.{statement}
 use Rattle.cases.proofs.archives.replay_case.Tie as tie
 
-slice-aggregate-replay-next : tie.Need-slice-aggregate-replay-next
-slice-aggregate-replay-next c = sym (length-take-le _ _ (omega arith))
-
 pub replay-case-spec : {M : Type 1} → statement M
 replay-case-spec =
     tie.close
@@ -16,7 +13,7 @@ replay-case-spec =
     (search needs)
     (search needs)
     (search needs)
-    slice-aggregate-replay-next
+    (λ c. sym (length-take-le _ _ (omega arith)))
     (search needs)
     (search needs)
     (search needs)

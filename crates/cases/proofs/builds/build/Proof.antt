@@ -6,9 +6,6 @@ use borrow.Author.Needs.{needs}
 use Rattle.cases.proofs.builds.build.Statement.{statement}
 use Rattle.cases.proofs.builds.build.Tie as tie
 
-slice-aggregate-print-certified : tie.Need-slice-aggregate-print-certified
-slice-aggregate-print-certified c = sym (length-take-le _ _ (omega arith))
-
 pub build-spec : {M : Type 1} → statement M
 build-spec =
     tie.close
@@ -22,7 +19,7 @@ build-spec =
     (search needs)
     (search needs)
     (search needs)
-    slice-aggregate-print-certified
+    (λ c. sym (length-take-le _ _ (omega arith)))
     (search needs)
     (search needs)
     (search needs)

@@ -17,14 +17,10 @@ abbrev μ-loop : tie.MeasureT-loop
 loop-holds : tie.Need-loop-holds Inv-loop μ-loop
 loop-holds c = (omega arith, refl)
 
-mul-remainder : tie.Need-mul-remainder Inv-loop μ-loop
-mul-remainder c = record { fits = omega (arith, c .before .loop .inv .0) }
-
-add-remainder : tie.Need-add-remainder Inv-loop μ-loop
-add-remainder c = record { fits = omega (arith, c .before .before .before .loop .inv .0, c .wide .ensures .1) }
-
 loop-again : tie.Need-loop-again Inv-loop μ-loop
-loop-again c = let head = c .before .before .before in sums-more _ _ _ _ _ (c .before .before .loop-test .taken) (c .wide .ensures .0) refl (head .loop .inv)
+loop-again c =
+    let head : tie.At-loop Inv-loop μ-loop = search in
+    sums-more _ _ _ _ _ (search) (c .wide .ensures .0) refl (head .loop .inv)
 
 returns : tie.Need-returns Inv-loop μ-loop
 returns c = sums-all _ _ _ (c .loop-test .left) (c .before .loop .inv)
@@ -36,10 +32,10 @@ checksum-spec =
     Inv-loop
     μ-loop
     loop-holds
-    mul-remainder
     (search needs)
     (search needs)
-    add-remainder
+    (search needs)
+    (search needs)
     (search needs)
     (search needs)
     loop-again

@@ -6,9 +6,6 @@ use borrow.Author.Needs.{needs}
 use Rattle.cases.proofs.input.next_list.Statement.{statement}
 use Rattle.cases.proofs.input.next_list.Tie as tie
 
-slice-aggregate-next-filled : tie.Need-slice-aggregate-next-filled
-slice-aggregate-next-filled c = sym (length-take-le _ _ (omega arith))
-
 pub next-list-spec : {M : Type 1} → statement M
 next-list-spec =
     tie.close
@@ -16,7 +13,7 @@ next-list-spec =
     (search needs)
     (search needs)
     (search needs)
-    slice-aggregate-next-filled
+    (λ c. sym (length-take-le _ _ (omega arith)))
     (search needs)
     (search needs)
     (search needs)
