@@ -1,5 +1,4 @@
 -- What the calls' answers say in document 01's terms: values, or the number of a refusal. Assumes nothing: these are definitions.
-use Prim.Native.Nat.{ℕ}
 use Rattle.format.specs.Refusal.{Answer, gives, refuses, number}
 use Rattle.format.specs.Calls.{Walk, Matched}
 use Rattle.format.specs.declared.Found.{Found}

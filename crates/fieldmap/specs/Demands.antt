@@ -1,8 +1,7 @@
 -- What is demanded of the calls, as theorems about what they promise: 1, each answers or gives a listed refusal; 2, they do what the crate does; 3, what
 -- holds of accepted, certified and built archives. The words in quotes are the mission's. The calls' contracts equate each answer, and each lent list
--- afterwards, with a definition of `format` at `layout32` and `standard`; the theorems speak of these definitions, for all arguments.
--- Assumes nothing.
-use Prim.Native.Nat.{ℕ, _+_, _^_, _<_}
+-- afterwards, with a definition of `format` at `layout32` and `standard`; the theorems speak of these definitions, for all arguments. Assumes nothing.
+use Prim.Native.Nat.{ℕ, _^_, _<_}
 use mathlib.Core.Path.{_≡_, sym, _∙_, ap}
 use mathlib.Core.Logic.{_≢_, _↔_, _⊎_}
 use mathlib.Core.Bool.{false}
@@ -32,12 +31,17 @@ use Rattle.format.specs.Written.{written, keysAfter, valuesAfter}
 use Rattle.format.specs.Tree.{Pair}
 use Rattle.format.specs.Build.{treeOf, pairs, build, buildLength, archive, outBy, outAfter}
 use Rattle.format.specs.Serialize.{serialize, streamed}
-use Rattle.format.specs.Calls.{lookupCall, bytesCall, placeCall, walkCall, walkKeys, walkValues, rangeCall, rangeKeys, rangeValues, columnCall, columnKeys, columnValues}
+use Rattle.format.specs.Calls.{lookupCall, bytesCall, placeCall, walkCall, walkKeys, walkValues, rangeCall, rangeKeys, rangeValues}
+use Rattle.format.specs.Calls.{columnCall, columnKeys, columnValues}
 use Rattle.format.specs.Laws.Certify.Find.{In, find-found, find-nothing, find-one}
-use Rattle.format.specs.Laws.Calls.Refusals.{check-by, certify-by, lookup-refused, walk-refused, range-refused, column-refused-by, build-by, length-by, signed-by, stored-by, absent-by, align-by, pack-by}
+use Rattle.format.specs.Laws.Calls.Refusals.{check-by, certify-by, lookup-refused, walk-refused, range-refused, column-refused-by}
+use Rattle.format.specs.Laws.Calls.Refusals.{build-by, length-by, signed-by, stored-by, absent-by, align-by, pack-by}
 use Rattle.format.specs.Laws.Check.Archive.{field-lands, field-apart, field-once, list-length}
 use Rattle.format.specs.Laws.Certify.Certified.{lookup-certified}
-use Rattle.format.specs.Laws.Calls.Opened.{certify-refuses, lookup-refuses, bytes-refuses, place-refuses, walk-refuses, walk-keys-refuses, walk-values-refuses, range-refuses, range-keys-refuses, range-values-refuses, is-recorded, is-archive, lookup-accepted, bytes-accepted, place-accepted, walk-accepted, walk-keys-accepted, walk-values-accepted, certified-exactly, is-certified, certified-accepts, range-certified, range-keys-certified, range-values-certified, column-uncertified}
+use Rattle.format.specs.Laws.Calls.Opened.{certify-refuses, lookup-refuses, bytes-refuses, place-refuses, walk-refuses, walk-keys-refuses, walk-values-refuses}
+use Rattle.format.specs.Laws.Calls.Opened.{range-refuses, range-keys-refuses, range-values-refuses, column-uncertified, is-recorded, is-archive}
+use Rattle.format.specs.Laws.Calls.Opened.{lookup-accepted, bytes-accepted, place-accepted, walk-accepted, walk-keys-accepted, walk-values-accepted}
+use Rattle.format.specs.Laws.Calls.Opened.{certified-exactly, is-certified, certified-accepts, range-certified, range-keys-certified, range-values-certified}
 use Rattle.format.specs.Laws.Range.Iter.{range-yields}
 use Rattle.format.specs.Laws.Numbers.Key.{pack-unpack}
 use Rattle.format.specs.Laws.Build.Built32.{Taken, taken, taken-gives, build-certifies, build-output, build-archive, Offsets, build-emplaces}

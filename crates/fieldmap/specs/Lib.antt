@@ -1,2 +1,3 @@
 pub mod Answers
 pub mod Demands
+pub mod Told

@@ -1,61 +1,62 @@
 -- `fieldmap::certify` meets its contract. Assumes nothing.
-use mathlib.Core.Path.{_≡_, sym, ap, _∙_}
+use mathlib.Core.Path.{sym}
 use native.Mathlib.Omega.{arith}
 use Rattle.format.specs.Layout.{layout32, standard}
-use Rattle.format.specs.Check.{counted, checkArchive}
-use Rattle.format.specs.Refusal.{number, gives, refuses, checkOf}
-use Rattle.format.specs.Laws.Calls.Opened.{room-for, root-back, node, certify-refuses, certify-none, certify-8, certify-9, certify-all}
+use Rattle.format.specs.Laws.Calls.Opened.{room-for, node, certify-refuses, certify-none, certify-8, certify-9, certify-all}
 use borrow.Author.Needs.{needs}
+use Rattle.fieldmap.specs.Told.{accepted-told, refused-told, root-requires}
 use Rattle.fieldmap.proofs.certify.Statement.{statement}
 use Rattle.fieldmap.proofs.certify.Tie as tie
 
--- What the check told: accepted with the count, or refused.
-opened : (c : tie.After-count) → counted (checkArchive layout32 standard (c .before .before .before .before .args .archive .now)) ≡ gives (c .count .given .0 .0)
-opened c = sym (c .before .before .check .ensures) ∙ ap checkOf (c .count .given .1)
-
-shut : (c : tie.After-why) → counted (checkArchive layout32 standard (c .before .before .before .before .args .archive .now)) ≡ refuses (number (c .why .given .0 .0))
-shut c = sym (c .before .before .check .ensures) ∙ ap checkOf (c .why .given .1)
-
-check-requires : tie.Need-check-requires
-check-requires c κs = search needs
-
-enum-known-why : tie.Need-enum-known-why
-enum-known-why c = search needs
-
-enum-known-count : tie.Need-enum-known-count
-enum-known-count c = search needs
-
 returns : tie.Need-returns
-returns c = sym (certify-none layout32 standard _ _ (opened (c .before .before)) (c .if1 .taken))
+returns c = sym (certify-none layout32 standard _ _ (accepted-told (c .before .before .count .given .1) (search)) (search))
 
 sub-t10 : tie.Need-sub-t10
-sub-t10 c = omega (arith, room-for layout32 standard _ _ (opened (c .before .before)))
+sub-t10 c =
+    let told : tie.After-count = search in
+    omega (arith, room-for layout32 standard _ _ (accepted-told (told .count .given .1) (told .before .before .check .ensures)))
 
 pointed-requires : tie.Need-pointed-requires
-pointed-requires c κs = (omega (arith, room-for layout32 standard _ _ (opened (c .before .before))), root-back layout32 standard _ _ (opened (c .before .before)) (c .if1 .left))
+pointed-requires c κs = root-requires _ _ (accepted-told (c .before .before .count .given .1) (search)) (search)
 
 certify-requires : tie.Need-certify-requires
-certify-requires c κs = node layout32 standard _ _ (opened (c .before .before .before)) (c .before .if1 .left) _ (c .pointed .ensures)
+certify-requires c κs =
+    let told : tie.After-count = search in
+    node layout32 standard _ _ (accepted-told (told .count .given .1) (search)) (search) _ (c .pointed .ensures)
 
 returns-2 : tie.Need-returns-2
-returns-2 c = sym (certify-8 layout32 standard _ _ (opened (c .before .before .before .before .before)) (c .before .before .before .if1 .left) _ (c .before .before .pointed .ensures) _ (c .before .certify .ensures .0) (c .if2 .taken))
+returns-2 c =
+    let told : tie.After-count = search in
+    let root : tie.After-pointed = search in
+    sym (certify-8 layout32 standard _ _ (accepted-told (told .count .given .1) (search)) (search) _ (root .pointed .ensures)
+    _ (c .before .certify .ensures .0) (search))
 
 returns-3 : tie.Need-returns-3
-returns-3 c = sym (certify-all layout32 standard _ _ (opened (c .before .before .before .before .before .before)) (c .before .before .before .before .if1 .left) _ (c .before .before .before .pointed .ensures) _ _ (c .before .before .certify .ensures .0) (c .before .before .certify .ensures .1) (c .before .if2 .left) (c .if3 .taken))
+returns-3 c =
+    let told : tie.After-count = search in
+    let root : tie.After-pointed = search in
+    let (hollow, ascends) = c .before .before .certify .ensures in
+    sym (certify-all layout32 standard _ _ (accepted-told (told .count .given .1) (search)) (search) _ (root .pointed .ensures)
+    _ _ hollow ascends (search) (search))
 
 returns-4 : tie.Need-returns-4
-returns-4 c = sym (certify-refuses layout32 standard _ _ (shut (c .before)))
+returns-4 c = sym (certify-refuses layout32 standard _ _ (refused-told (c .before .why .given .1) (search)))
 
 returns-5 : tie.Need-returns-5
-returns-5 c = sym (certify-9 layout32 standard _ _ (opened (c .before .before .before .before .before .before)) (c .before .before .before .before .if1 .left) _ (c .before .before .before .pointed .ensures) _ _ (c .before .before .certify .ensures .0) (c .before .before .certify .ensures .1) (c .before .if2 .left) (c .if3 .left))
+returns-5 c =
+    let told : tie.After-count = search in
+    let root : tie.After-pointed = search in
+    let (hollow, ascends) = c .before .before .certify .ensures in
+    sym (certify-9 layout32 standard _ _ (accepted-told (told .count .given .1) (search)) (search) _ (root .pointed .ensures)
+    _ _ hollow ascends (search) (search))
 
 pub certify-spec : {M : Type 1} → statement M
 certify-spec =
     tie.close
     (tie.spec
-    check-requires
-    enum-known-why
-    enum-known-count
+    (λ c κs. search needs)
+    (search needs)
+    (search needs)
     returns
     sub-t10
     pointed-requires

@@ -1,52 +1,57 @@
 -- `fieldmap::column` meets its contract. Assumes nothing.
 use mathlib.Core.Path.{_≡_, sym, ap, _∙_}
+use Prim.Native.Nat.{ℕ}
+use lib.IntN.{ℤ}
+use mir.Syntax.{w8}
+use mir.Val.{SFits, toZ, ofZ}
 use mir.Facts.{toZ-ofZ}
 use borrow.Author.Needs.{needs}
 use Rattle.format.specs.Layout.{layout32, standard}
 use Rattle.format.specs.Key.{columnBounds}
-use Rattle.format.specs.Refusal.{number, gives, refuses, checkOf}
-use Rattle.format.specs.Laws.Calls.Opened.{column-ranges, column-keys-ranges, column-values-ranges, column-uncertified, column-refused, column-keys-refused, column-values-refused}
+use Rattle.format.specs.Laws.Calls.Opened.{column-ranges, column-keys-ranges, column-values-ranges}
+use Rattle.format.specs.Laws.Calls.Opened.{column-uncertified, column-refused, column-keys-refused, column-values-refused}
+use Rattle.perimetry.specs.declared.column.Columns.{Columns}
 use Rattle.perimetry.specs.Answers.{columnsOf}
+use Rattle.fieldmap.specs.Told.{accepted-told, refused-told}
 use Rattle.fieldmap.proofs.column.Statement.{statement}
 use Rattle.fieldmap.proofs.column.Tie as tie
 
--- What the bounds are.
-exact : (c : tie.After-column-bounds) →
-    let start = c .before .before .before .before in
-    columnsOf (c .column-bounds .result) ≡ columnBounds (start .args .examination) (start .args .eye) (start .args .a) (start .args .b)
-exact c = let start = c .before .before .before .before in
-    c .column-bounds .ensures ∙ rw (toZ-ofZ (start .fits .a), toZ-ofZ (start .fits .b))
-
--- That they are refused, and that they are given.
-shut : (c : tie.After-why) →
-    let start = c .before .before .before .before .before .before in
-    columnBounds (start .args .examination) (start .args .eye) (start .args .a) (start .args .b) ≡ refuses (number (c .why .given .0 .0))
-shut c = sym (exact (c .before .before)) ∙ ap columnsOf (c .why .given .1)
-
-opened : (c : tie.After-c) →
-    let start = c .before .before .before .before .before .before in
-    columnBounds (start .args .examination) (start .args .eye) (start .args .a) (start .args .b) ≡ gives (record { lower = c .c .given .0 .0 .lower; upper = c .c .given .0 .0 .upper })
-opened c = sym (exact (c .before .before)) ∙ ap columnsOf (c .c .given .1)
+-- The bounds for the numbers that are handed in, where the match knows the answer v.
+bounds-told : (exam eye : ℕ) {a b : ℤ} {r v : Columns} → SFits w8 a → SFits w8 b → r ≡ v
+    → columnsOf r ≡ columnBounds exam eye (toZ w8 (ofZ w8 a)) (toZ w8 (ofZ w8 b)) → columnBounds exam eye a b ≡ columnsOf v
+bounds-told exam eye fa fb h e = sym (rw (toZ-ofZ fa, toZ-ofZ fb) at e) ∙ ap columnsOf h
 
 returns : tie.Need-returns
 returns c =
-    let e = shut (c .before .before .before .before .before) in
-    let u = sym (c .before .before .before .certify .ensures) ∙ ap checkOf (c .before .first .given .1) in (
-      sym (column-uncertified layout32 standard _ _ _ _ _ _ _ _ u),
-      (sym (column-keys-refused layout32 standard _ _ _ _ _ _ _ _ e), sym (column-values-refused layout32 standard _ _ _ _ _ _ _ _ e)),
+    let told : tie.After-why = search in
+    let start : tie.Start = search in
+    let refused = bounds-told _ _ (start .fits .a) (start .fits .b) (told .why .given .1) (told .before .before .column-bounds .ensures) in (
+      sym (column-uncertified layout32 standard _ _ _ _ _ _ _ _ (refused-told (c .before .first .given .1) (search))),
+      (sym (column-keys-refused layout32 standard _ _ _ _ _ _ _ _ refused), sym (column-values-refused layout32 standard _ _ _ _ _ _ _ _ refused)),
     )
 
 returns-2 : tie.Need-returns-2
 returns-2 c =
-    let e = opened (c .before .before .before .before .before .before .before .before) in
-    let r = c .before .before .before .before .range .ensures in
-    (r .0 ∙ sym (column-ranges layout32 standard _ _ _ _ _ _ _ _ e), (r .1 .0 ∙ sym (column-keys-ranges layout32 standard _ _ _ _ _ _ _ _ e), r .1 .1 ∙ sym (column-values-ranges layout32 standard _ _ _ _ _ _ _ _ e)))
+    let found : tie.After-range = search in
+    let told : tie.After-c = search in
+    let start : tie.Start = search in
+    let given = bounds-told _ _ (start .fits .a) (start .fits .b) (told .c .given .1) (told .before .before .column-bounds .ensures) in
+    let (answer, lists) = found .range .ensures in (
+      answer ∙ sym (column-ranges layout32 standard _ _ _ _ _ _ _ _ given),
+      (
+        lists .0 ∙ sym (column-keys-ranges layout32 standard _ _ _ _ _ _ _ _ given),
+        lists .1 ∙ sym (column-values-ranges layout32 standard _ _ _ _ _ _ _ _ given),
+      ),
+    )
 
 returns-3 : tie.Need-returns-3
 returns-3 c =
-    let e = shut (c .before .before .before .before) in
-    let u = sym (c .before .before .certify .ensures) ∙ ap checkOf (c .enum-told .given .1) in
-    (sym (column-refused layout32 standard _ _ _ _ _ _ _ _ e _ u), (sym (column-keys-refused layout32 standard _ _ _ _ _ _ _ _ e), sym (column-values-refused layout32 standard _ _ _ _ _ _ _ _ e)))
+    let told : tie.After-why = search in
+    let start : tie.Start = search in
+    let refused = bounds-told _ _ (start .fits .a) (start .fits .b) (told .why .given .1) (told .before .before .column-bounds .ensures) in (
+      sym (column-refused layout32 standard _ _ _ _ _ _ _ _ refused _ (accepted-told (c .enum-told .given .1) (search))),
+      (sym (column-keys-refused layout32 standard _ _ _ _ _ _ _ _ refused), sym (column-values-refused layout32 standard _ _ _ _ _ _ _ _ refused)),
+    )
 
 pub column-spec : {M : Type 1} → statement M
 column-spec =

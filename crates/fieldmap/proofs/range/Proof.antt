@@ -1,49 +1,62 @@
 -- `fieldmap::range` meets its contract. Assumes nothing.
-use mathlib.Core.Path.{_≡_, sym, ap, _∙_}
+use mathlib.Core.Path.{sym}
 use native.Mathlib.Omega.{arith}
 use Rattle.format.specs.Layout.{layout32, standard}
-use Rattle.format.specs.Check.{counted}
-use Rattle.format.specs.Certify.{certify}
-use Rattle.format.specs.Refusal.{number, gives, refuses, checkOf}
-use Rattle.format.specs.Laws.Calls.Opened.{room-for, root-back, node, certified-accepts, ascending-root, range-refuses, range-keys-refuses, range-values-refuses, range-none, range-keys-none, range-values-none, range-gives, range-keys-gives, range-values-gives}
+use Rattle.format.specs.Laws.Calls.Opened.{room-for, node, certified-accepts, ascending-root, range-refuses, range-keys-refuses, range-values-refuses}
+use Rattle.format.specs.Laws.Calls.Opened.{range-none, range-keys-none, range-values-none, range-gives, range-keys-gives, range-values-gives}
 use borrow.Author.Needs.{needs}
+use Rattle.fieldmap.specs.Told.{accepted-told, refused-told, root-requires}
 use Rattle.fieldmap.proofs.range.Statement.{statement}
 use Rattle.fieldmap.proofs.range.Tie as tie
 
--- What certification told: accepted with the count, or refused.
-opened : (c : tie.After-count) → counted (certify layout32 standard (c .before .before .before .before .before .before .args .archive .now)) ≡ gives (c .count .given .0 .0)
-opened c = sym (c .before .before .certify .ensures) ∙ ap checkOf (c .count .given .1)
-
-shut : (c : tie.After-why) → counted (certify layout32 standard (c .before .before .before .before .before .before .args .archive .now)) ≡ refuses (number (c .why .given .0 .0))
-shut c = sym (c .before .before .certify .ensures) ∙ ap checkOf (c .why .given .1)
-
 returns : tie.Need-returns
-returns c = let o = opened (c .before .before) in
-    (sym (range-none layout32 standard _ _ o _ _ _ _ (c .if1 .taken)), (sym (range-keys-none layout32 standard _ _ o _ _ _ _ (c .if1 .taken)), sym (range-values-none layout32 standard _ _ o _ _ _ _ (c .if1 .taken))))
+returns c =
+    let told : tie.After-count = search in
+    let certified = accepted-told (told .count .given .1) (told .before .before .certify .ensures) in (
+      sym (range-none layout32 standard _ _ certified _ _ _ _ (search)),
+      (sym (range-keys-none layout32 standard _ _ certified _ _ _ _ (search)), sym (range-values-none layout32 standard _ _ certified _ _ _ _ (search))),
+    )
 
 sub-t15 : tie.Need-sub-t15
-sub-t15 c = omega (arith, room-for layout32 standard _ _ (certified-accepts layout32 standard _ _ (opened (c .before .before))))
+sub-t15 c =
+    let told : tie.After-count = search in
+    let certified = accepted-told (told .count .given .1) (told .before .before .certify .ensures) in
+    omega (arith, room-for layout32 standard _ _ (certified-accepts layout32 standard _ _ certified))
 
 pointed-requires : tie.Need-pointed-requires
-pointed-requires c κs =
-    let a = certified-accepts layout32 standard _ _ (opened (c .before .before)) in
-    (omega (arith, room-for layout32 standard _ _ a), root-back layout32 standard _ _ a (c .if1 .left))
+pointed-requires c κs = root-requires _ _ (certified-accepts layout32 standard _ _ (accepted-told (c .before .before .count .given .1) (search))) (search)
 
 range-with-requires : tie.Need-range-with-requires
 range-with-requires c κs =
-    let o = opened (c .before .before .before .before .before) in
-    let z = c .before .before .before .if1 .left in
-    (node layout32 standard _ _ (certified-accepts layout32 standard _ _ o) z _ (c .before .before .pointed .ensures), ascending-root layout32 standard _ _ o z _ (c .before .before .pointed .ensures))
+    let told : tie.After-count = search in
+    let root : tie.After-pointed = search in
+    let certified = accepted-told (told .count .given .1) (told .before .before .certify .ensures) in (
+      node layout32 standard _ _ (certified-accepts layout32 standard _ _ certified) (search) _ (root .pointed .ensures),
+      ascending-root layout32 standard _ _ certified (search) _ (root .pointed .ensures),
+    )
 
 returns-2 : tie.Need-returns-2
-returns-2 c = let o = shut (c .before) in
-    (sym (range-refuses layout32 standard _ _ o _ _ _ _), (sym (range-keys-refuses layout32 standard _ _ o _ _ _ _), sym (range-values-refuses layout32 standard _ _ o _ _ _ _)))
+returns-2 c =
+    let told : tie.After-why = search in
+    let refused = refused-told (told .why .given .1) (told .before .before .certify .ensures) in (
+      sym (range-refuses layout32 standard _ _ refused _ _ _ _),
+      (sym (range-keys-refuses layout32 standard _ _ refused _ _ _ _), sym (range-values-refuses layout32 standard _ _ refused _ _ _ _)),
+    )
 
 returns-3 : tie.Need-returns-3
-returns-3 c = let k = c .before .before .before .before .before .before .before in
-    let o = opened (k .before .before .before) in
-    let e = c .before .before .before .before .range-with .ensures in
-    (sym (range-gives layout32 standard _ _ o _ _ _ _ (k .before .if1 .left) _ (k .pointed .ensures) _ (e .1) _ _ _ (e .0)), (sym (range-keys-gives layout32 standard _ _ o _ _ _ _ (k .before .if1 .left) _ (k .pointed .ensures) _ (e .1) _ _ _ (e .0)), sym (range-values-gives layout32 standard _ _ o _ _ _ _ (k .before .if1 .left) _ (k .pointed .ensures) _ (e .1) _ _ _ (e .0))))
+returns-3 c =
+    let found : tie.After-range-with = search in
+    let root : tie.After-pointed = search in
+    let told : tie.After-count = search in
+    let certified = accepted-told (told .count .given .1) (told .before .before .certify .ensures) in
+    let leads = root .pointed .ensures in
+    let (written, matching) = found .range-with .ensures in (
+      sym (range-gives layout32 standard _ _ certified _ _ _ _ (search) _ leads _ matching _ _ _ written),
+      (
+        sym (range-keys-gives layout32 standard _ _ certified _ _ _ _ (search) _ leads _ matching _ _ _ written),
+        sym (range-values-gives layout32 standard _ _ certified _ _ _ _ (search) _ leads _ matching _ _ _ written),
+      ),
+    )
 
 pub range-spec : {M : Type 1} → statement M
 range-spec =
