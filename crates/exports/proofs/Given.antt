@@ -1,12 +1,16 @@
 -- What the equation of a call says of its coded answer and of a lent number. Assumes nothing.
-use Prim.Native.Nat.{ℕ, zero, suc, _≤_, zero-le}
+use mir.Syntax.{w64}
+use mir.Val.{toZ, ofZ}
+use mir.Facts.{toZ-ofZ}
+use Prim.Native.Nat.{ℕ, zero, suc, _^_, _≤_, _<_, zero-le}
 use mathlib.Core.Path.{_≡_, refl, sym, ap, _∙_}
 use mathlib.Core.List.{List, []}
 use native.Mathlib.Omega.{arith}
+use borrow.Author.Needs.{sfits-of}
 use lib.Dec.{le→leb}
 use lib.IntN.{ℤ, pos, negℤ}
 use lib.ListN.{take, drop}
-use lib.Signed.{_≤ℤ_, _<ℤ_}
+use lib.Signed.{mag, _≤ℤ_, _<ℤ_}
 use Rattle.format.specs.declared.CheckAnswer.{CheckAnswer}
 use Rattle.format.specs.declared.CheckAnswer.the-variants.{Accepted, Refused}
 use Rattle.format.specs.declared.Refusal.{Refusal}
@@ -42,6 +46,19 @@ module _ {A : Type 0} {z : ℤ} {a : Answer A} where
   pub told-refused : (why : Refusal) → a ≡ refuses (number why) → z ≡ negℤ (pos (number why)) → Tells z a
   told-refused why e h = let l = number-listed why in rw (e, h) (below (number why) (l .0), l .0, l .1)
 
+-- The machine's 64 bits hold the number that is returned.
+pub returned : {y z : ℤ} → mag z < 2 ^ 63 → z ≡ y → toZ w64 (ofZ w64 z) ≡ y
+returned fits e = toZ-ofZ {w = w64} (sfits-of fits) ∙ e
+
+-- What a call's contract says of its answer, before what it says of lent places.
+module _ {A Rest : Type 0} (f : A → ℕ) {a : Answer A} {z : ℤ} where
+  pub answers-given : {x : A} → a ≡ gives x → z ≡ pos (f x) → Rest → (z ≡ coded f a) × (Tells z a × Rest)
+  answers-given e h rest = (code-given f e h, (told-given e h, rest))
+
+  pub answers-refused : (why : Refusal) → a ≡ refuses (number why) → mag z < 2 ^ 63 → z ≡ negℤ (pos (number why)) → Rest
+      → (toZ w64 (ofZ w64 z) ≡ coded f a) × (Tells (toZ w64 (ofZ w64 z)) a × Rest)
+  answers-refused why e fits h rest = let r = returned fits h in (code-refused f e r, (told-refused why e r, rest))
+
 -- A refusal tells no length.
 pub no-bytes : {z : ℤ} (why : Refusal) (l : List ℕ) → z ≡ negℤ (pos (number why)) → take (lengthTold z) l ≡ []
 no-bytes why l e = ap (λ (z : ℤ). take (lengthTold z) l) e ∙ by (number why)
@@ -61,6 +78,15 @@ module _ {A B : Type 0} (f : A → B) (v : B) {a : Answer A} where
 
   pub store-refused : {r : ℕ} → a ≡ refuses r → v ≡ stored f a v
   store-refused e = sym (ap (λ (b : Answer A). stored f b v) e)
+
+-- A call that stores what is given at a place, which held v, and answers 0.
+module _ {A : Type 0} (v : A) {a : Answer A} where
+  pub part-given : {x y : A} → a ≡ gives x → y ≡ x → (pos 0 ≡ coded (λ (x : A). 0) a) × (Tells (pos 0) a × (y ≡ stored (λ (x : A). x) a v))
+  part-given e h = answers-given (λ (x : A). 0) e refl (h ∙ store-given (λ (x : A). x) v e)
+
+  pub part-refused : {z : ℤ} (why : Refusal) → a ≡ refuses (number why) → mag z < 2 ^ 63 → z ≡ negℤ (pos (number why))
+      → (toZ w64 (ofZ w64 z) ≡ coded (λ (x : A). 0) a) × (Tells (toZ w64 (ofZ w64 z)) a × (v ≡ stored (λ (x : A). x) a v))
+  part-refused why e fits h = answers-refused (λ (x : A). 0) why e fits h (store-refused (λ (x : A). x) v e)
 
 module _ (f : Entry → ℕ) (v : ℕ) {a : Answer Found} where
   pub found-stored : {x : Entry} → a ≡ gives (found x) → f x ≡ storedFound f a v

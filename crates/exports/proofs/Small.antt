@@ -10,7 +10,10 @@ use lib.IntN.{ℤ, pos, negℤ, _-ℤ_, +ℤ-idl}
 use lib.Signed.{mag}
 use lib.Dec.{lit≤}
 use Rattle.format.specs.declared.Refusal.{Refusal}
-use Rattle.format.specs.declared.Refusal.the-variants.{ArchiveTooLong, InvalidSubtreePointer, UnalignedPointer, InvalidKind, ExceededMaximumSubtreeDepth, InvalidLength, EntriesLengthMismatch, HollowNode, KeysNotAscending, IteratorLengthMismatch, TooManyEntries, GivenKeysNotAscending, HeaderTooLong, OutputTooShort, IsizeOverflow, OffsetOverflow, InvalidAlignment, KeyFieldOverflow}
+use Rattle.format.specs.declared.Refusal.the-variants.{ArchiveTooLong, InvalidSubtreePointer, UnalignedPointer, InvalidKind}
+use Rattle.format.specs.declared.Refusal.the-variants.{ExceededMaximumSubtreeDepth, InvalidLength, EntriesLengthMismatch, HollowNode}
+use Rattle.format.specs.declared.Refusal.the-variants.{KeysNotAscending, IteratorLengthMismatch, TooManyEntries, GivenKeysNotAscending, HeaderTooLong}
+use Rattle.format.specs.declared.Refusal.the-variants.{OutputTooShort, IsizeOverflow, OffsetOverflow, InvalidAlignment, KeyFieldOverflow}
 use Rattle.format.specs.Refusal.{number}
 
 pub number-listed : (why : Refusal) → (1 ≤ number why) × (number why ≤ 18)

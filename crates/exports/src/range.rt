@@ -21,15 +21,19 @@ pub extern "C" fn fieldmap_range(
     matching: &mut u64,
 ) -> i64
     ensures answer { λ r. ⌜ r ≡ coded rangeWritten
-        (rangeCall layout32 standard (now (archive .entry)) (boundOf «lower_kind» lower) (boundOf «upper_kind» upper) (now (keys .entry)) (now (values .entry))) ⌝ }
+        (rangeCall layout32 standard (now (archive .entry)) (boundOf «lower_kind» lower) (boundOf «upper_kind» upper)
+        (now (keys .entry)) (now (values .entry))) ⌝ }
     ensures told { λ r. ⌜ Tells r (rangeCall layout32 standard (now (archive .entry)) (boundOf «lower_kind» lower) (boundOf «upper_kind» upper)
         (now (keys .entry)) (now (values .entry))) ⌝ }
     ensures keys { λ r. ⌜ now (keys .exit)
-        ≡ rangeKeys layout32 standard (now (archive .entry)) (boundOf «lower_kind» lower) (boundOf «upper_kind» upper) (now (keys .entry)) (now (values .entry)) ⌝ }
+        ≡ rangeKeys layout32 standard (now (archive .entry)) (boundOf «lower_kind» lower) (boundOf «upper_kind» upper)
+        (now (keys .entry)) (now (values .entry)) ⌝ }
     ensures values { λ r. ⌜ now (values .exit)
-        ≡ rangeValues layout32 standard (now (archive .entry)) (boundOf «lower_kind» lower) (boundOf «upper_kind» upper) (now (keys .entry)) (now (values .entry)) ⌝ }
+        ≡ rangeValues layout32 standard (now (archive .entry)) (boundOf «lower_kind» lower) (boundOf «upper_kind» upper)
+        (now (keys .entry)) (now (values .entry)) ⌝ }
     ensures matching { λ r. ⌜ now (matching .exit) ≡ stored rangeMatching
-        (rangeCall layout32 standard (now (archive .entry)) (boundOf «lower_kind» lower) (boundOf «upper_kind» upper) (now (keys .entry)) (now (values .entry)))
+        (rangeCall layout32 standard (now (archive .entry)) (boundOf «lower_kind» lower) (boundOf «upper_kind» upper)
+        (now (keys .entry)) (now (values .entry)))
         (now (matching .entry)) ⌝ }
 {
     let from = bound(lower_kind, lower);

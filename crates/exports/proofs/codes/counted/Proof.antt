@@ -1,11 +1,9 @@
 -- `exports::codes::counted` meets its contract. Assumes nothing.
-use mir.Syntax.{w64}
-use mir.Facts.{toZ-ofZ}
 use Prim.Native.Nat.{ℕ}
-use mathlib.Core.Path.{_∙_, ap}
-use borrow.Author.Needs.{needs, sfits-of}
+use mathlib.Core.Path.{ap}
+use borrow.Author.Needs.{needs}
 use Rattle.format.specs.Refusal.{checkOf}
-use Rattle.exports.proofs.Given.{code-given, code-refused}
+use Rattle.exports.proofs.Given.{code-given, code-refused, returned}
 use Rattle.exports.proofs.codes.counted.Statement.{statement}
 use Rattle.exports.proofs.codes.counted.Tie as tie
 
@@ -18,11 +16,11 @@ given-requires c κs =
 returns : tie.Need-returns
 returns c =
     let told : tie.After-answer = search in
-    code-given (λ (n : ℕ). n) (ap checkOf (told .answer .given .1)) (toZ-ofZ {w = w64} (sfits-of (c .given .ok)) ∙ c .given .ensures)
+    code-given (λ (n : ℕ). n) (ap checkOf (told .answer .given .1)) (returned (c .given .ok) (c .given .ensures))
 
 returns-2 : tie.Need-returns-2
 returns-2 c =
-    code-refused (λ (n : ℕ). n) (ap checkOf (c .before .before .answer2 .given .1)) (toZ-ofZ {w = w64} (sfits-of (c .refused .ok)) ∙ c .refused .ensures)
+    code-refused (λ (n : ℕ). n) (ap checkOf (c .before .before .answer2 .given .1)) (returned (c .refused .ok) (c .refused .ensures))
 
 pub counted-spec : {M : Type 1} → statement M
 counted-spec = tie.close (tie.spec (search needs) given-requires (search needs) (search needs) returns returns-2)

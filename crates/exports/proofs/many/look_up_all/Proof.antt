@@ -18,9 +18,6 @@ Inv-loop archive root keys values₀ n found₀ i₀ values found i =
 abbrev μ-loop : tie.MeasureT-loop
 μ-loop archive root keys values₀ n found₀ i₀ values found i = n - i
 
-least-requires : tie.Need-least-requires Inv-loop μ-loop
-least-requires c κs = search needs
-
 loop-holds : tie.Need-loop-holds Inv-loop μ-loop
 loop-holds c = (search needs, search needs, first-none _ _ _)
 
@@ -30,20 +27,11 @@ look-up-at-requires c κs =
     let start : tie.Start Inv-loop μ-loop = search in
     (start .pre, search needs, search needs, found-most _ _ _ _ _ _ (head .loop .inv .2))
 
-add-i : tie.Need-add-i Inv-loop μ-loop
-add-i c = search needs
-
-loop-less : tie.Need-loop-less Inv-loop μ-loop
-loop-less c = search needs
-
 loop-again : tie.Need-loop-again Inv-loop μ-loop
 loop-again c =
     let head : tie.At-loop Inv-loop μ-loop = search in
     let step : tie.After-look-up-at Inv-loop μ-loop = search in
     (search needs, search needs, first-more _ _ _ _ _ _ (head .loop .inv .2) _ _ (step .look-up-at .ensures))
-
-same-length : tie.Need-same-length Inv-loop μ-loop
-same-length c = search needs
 
 returns : tie.Need-returns Inv-loop μ-loop
 returns c =
@@ -56,11 +44,11 @@ look-up-all-spec =
     (tie.spec
     Inv-loop
     μ-loop
-    least-requires
+    (λ c κs. search needs)
     loop-holds
     look-up-at-requires
-    add-i
-    loop-less
+    (search needs)
+    (search needs)
     loop-again
-    same-length
+    (search needs)
     returns)

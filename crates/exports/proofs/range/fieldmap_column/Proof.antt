@@ -1,48 +1,43 @@
 -- `exports::range::fieldmap_column` meets its contract. Assumes nothing.
-use mir.Syntax.{w64}
 use mir.Facts.{toZ-ofZ}
 use mathlib.Core.Path.{_∙_, sym, ap}
 use native.Mathlib.Omega.{arith}
-use borrow.Author.Needs.{needs, sfits-of}
+use borrow.Author.Needs.{needs}
 use Rattle.format.specs.Layout.{layout32, standard}
-use Rattle.format.specs.Bytes.{AllBytes}
 use Rattle.format.specs.Laws.Calls.Numbers.{column-fits}
 use Rattle.fieldmap.specs.Answers.{rangeOf}
 use Rattle.exports.specs.Answers.{rangeWritten, rangeMatching}
-use Rattle.exports.proofs.Given.{code-given, code-refused, told-given, told-refused, store-given, store-refused}
+use Rattle.exports.proofs.Given.{answers-given, answers-refused, returned, store-given, store-refused}
 use Rattle.exports.proofs.range.fieldmap_column.Statement.{statement}
 use Rattle.exports.proofs.range.fieldmap_column.Tie as tie
-
-bytes : (k : tie.After-shared-slice-known) → AllBytes (k .before .args .archive .now)
-bytes k i = k .shared-slice-known .given i .fits
 
 given-requires : tie.Need-given-requires
 given-requires c κs =
     let call : tie.After-column = search in
     let told : tie.After-written = search in
+    let known : tie.After-shared-slice-known = search in
     let e = sym (call .column .ensures .0) ∙ ap rangeOf (told .written .given .1) in
-    omega (arith, column-fits layout32 standard _ (bytes (search)) _ _ _ _ _ _ _ e)
+    omega (arith, column-fits layout32 standard _ (λ i. known .shared-slice-known .given i .fits) _ _ _ _ _ _ _ e)
 
 returns : tie.Need-returns
 returns c =
     let start : tie.Start = search in
     let call : tie.After-column = search in
-    let p = call .column .ensures in
-    let e = sym (p .0) ∙ ap rangeOf (c .before .before .why .given .1) in
-    let r = toZ-ofZ {w = w64} (sfits-of (c .refused .ok)) ∙ c .refused .ensures in
+    let (answer, lists) = call .column .ensures in
+    let e = sym answer ∙ ap rangeOf (c .before .before .why .given .1) in
     rw (sym (toZ-ofZ (start .fits .a)), sym (toZ-ofZ (start .fits .b)))
-    (code-refused rangeWritten e r, (told-refused (c .before .before .why .given .0 .0) e r, (p .1 .0, (p .1 .1, store-refused rangeMatching _ e))))
+    (answers-refused rangeWritten (c .before .before .why .given .0 .0) e (c .refused .ok) (c .refused .ensures)
+    (lists .0, (lists .1, store-refused rangeMatching _ e)))
 
 returns-2 : tie.Need-returns-2
 returns-2 c =
     let told : tie.After-written = search in
     let start : tie.Start = search in
     let call : tie.After-column = search in
-    let p = call .column .ensures in
-    let e = sym (p .0) ∙ ap rangeOf (told .written .given .1) in
-    let r = toZ-ofZ {w = w64} (sfits-of (c .given .ok)) ∙ c .given .ensures in
+    let (answer, lists) = call .column .ensures in
+    let e = sym answer ∙ ap rangeOf (told .written .given .1) in
     rw (sym (toZ-ofZ (start .fits .a)), sym (toZ-ofZ (start .fits .b)))
-    (code-given rangeWritten e r, (told-given e r, (p .1 .0, (p .1 .1, store-given rangeMatching _ e))))
+    (answers-given rangeWritten e (returned (c .given .ok) (c .given .ensures)) (lists .0, (lists .1, store-given rangeMatching _ e)))
 
 pub fieldmap-column-spec : {M : Type 1} → statement M
 fieldmap-column-spec =

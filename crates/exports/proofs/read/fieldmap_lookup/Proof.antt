@@ -1,30 +1,28 @@
 -- `exports::read::fieldmap_lookup` meets its contract. Assumes nothing.
-use mir.Syntax.{w64}
-use mir.Facts.{toZ-ofZ}
 use mathlib.Core.Path.{refl, _∙_, sym, ap}
-use borrow.Author.Needs.{needs, sfits-of}
+use borrow.Author.Needs.{needs}
 use Rattle.fieldmap.specs.Answers.{lookupOf}
 use Rattle.exports.specs.Answers.{foundFlag, entryValue, entryPosition}
-use Rattle.exports.proofs.Given.{code-given, code-refused, told-given, told-refused, found-stored, nothing-stored, refused-stored}
+use Rattle.exports.proofs.Given.{answers-given, answers-refused, found-stored, nothing-stored, refused-stored}
 use Rattle.exports.proofs.read.fieldmap_lookup.Statement.{statement}
 use Rattle.exports.proofs.read.fieldmap_lookup.Tie as tie
 
 returns : tie.Need-returns
 returns c =
-    let call : tie.After-lookup = search in
-    let e = sym (call .lookup .ensures) ∙ ap lookupOf (c .before .before .why .given .1) in
-    let r = toZ-ofZ {w = w64} (sfits-of (c .refused .ok)) ∙ c .refused .ensures in
-    (code-refused foundFlag e r, (told-refused (c .before .before .why .given .0 .0) e r, (refused-stored entryValue _ e, refused-stored entryPosition _ e)))
+    let told : tie.After-why = search in
+    let e = sym (told .before .before .lookup .ensures) ∙ ap lookupOf (told .why .given .1) in
+    answers-refused foundFlag (told .why .given .0 .0) e (c .refused .ok) (c .refused .ensures)
+    (refused-stored entryValue _ e, refused-stored entryPosition _ e)
 
 returns-2 : tie.Need-returns-2
 returns-2 c =
     let e = sym (c .before .before .lookup .ensures) ∙ ap lookupOf (c .enum-told .given .1) in
-    (code-given foundFlag e refl, (told-given e refl, (nothing-stored entryValue _ e, nothing-stored entryPosition _ e)))
+    answers-given foundFlag e refl (nothing-stored entryValue _ e, nothing-stored entryPosition _ e)
 
 returns-3 : tie.Need-returns-3
 returns-3 c =
     let e = sym (c .before .before .before .lookup .ensures) ∙ ap lookupOf (c .before .e .given .1) in
-    (code-given foundFlag e refl, (told-given e refl, (found-stored entryValue _ e, found-stored entryPosition _ e)))
+    answers-given foundFlag e refl (found-stored entryValue _ e, found-stored entryPosition _ e)
 
 pub fieldmap-lookup-spec : {M : Type 1} → statement M
 fieldmap-lookup-spec =

@@ -1,37 +1,31 @@
 -- `exports::read::fieldmap_lookup_bytes` meets its contract. Assumes nothing.
-use mir.Syntax.{w64}
-use mir.Facts.{toZ-ofZ}
 use mathlib.Core.Path.{refl, _∙_, sym, ap}
-use borrow.Author.Needs.{needs, sfits-of}
+use borrow.Author.Needs.{needs}
 use Rattle.fieldmap.specs.Answers.{lookupOf}
 use Rattle.format.specs.Layout.{layout32, standard}
 use Rattle.exports.specs.Answers.{partLength, entryPosition}
-use Rattle.exports.proofs.Given.{code-given, code-refused, told-given, told-refused, no-bytes}
+use Rattle.exports.proofs.Given.{answers-given, answers-refused, returned, no-bytes}
 use Rattle.exports.proofs.Given.{found-stored, nothing-stored, refused-stored, found-part, nothing-part, refused-part}
 use Rattle.exports.proofs.read.fieldmap_lookup_bytes.Statement.{statement}
 use Rattle.exports.proofs.read.fieldmap_lookup_bytes.Tie as tie
 
 returns : tie.Need-returns
 returns c =
-    let call : tie.After-lookup = search in
-    let e = sym (call .lookup .ensures) ∙ ap lookupOf (c .before .before .fault .given .1) in
-    let r = toZ-ofZ {w = w64} (sfits-of (c .refused .ok)) ∙ c .refused .ensures in (
-      code-refused partLength e r,
-      (
-        told-refused (c .before .before .fault .given .0 .0) e r,
-        (refused-stored entryPosition _ e, no-bytes (c .before .before .fault .given .0 .0) _ r ∙ sym (refused-part layout32 standard _ _ e)),
-      ),
-    )
+    let told : tie.After-fault = search in
+    let why = told .fault .given .0 .0 in
+    let e = sym (told .before .before .lookup .ensures) ∙ ap lookupOf (told .fault .given .1) in
+    answers-refused partLength why e (c .refused .ok) (c .refused .ensures)
+    (refused-stored entryPosition _ e, no-bytes why _ (returned (c .refused .ok) (c .refused .ensures)) ∙ sym (refused-part layout32 standard _ _ e))
 
 returns-2 : tie.Need-returns-2
 returns-2 c =
     let e = sym (c .before .before .lookup .ensures) ∙ ap lookupOf (c .enum-told .given .1) in
-    (code-given partLength e refl, (told-given e refl, (nothing-stored entryPosition _ e, sym (nothing-part layout32 standard _ _ e))))
+    answers-given partLength e refl (nothing-stored entryPosition _ e, sym (nothing-part layout32 standard _ _ e))
 
 returns-3 : tie.Need-returns-3
 returns-3 c =
     let e = sym (c .before .before .before .lookup .ensures) ∙ ap lookupOf (c .before .e .given .1) in
-    (code-given partLength e refl, (told-given e refl, (found-stored entryPosition _ e, sym (found-part layout32 standard _ _ e))))
+    answers-given partLength e refl (found-stored entryPosition _ e, sym (found-part layout32 standard _ _ e))
 
 pub fieldmap-lookup-bytes-spec : {M : Type 1} → statement M
 fieldmap-lookup-bytes-spec =

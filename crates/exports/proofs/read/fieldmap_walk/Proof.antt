@@ -1,44 +1,38 @@
 -- `exports::read::fieldmap_walk` meets its contract. Assumes nothing.
-use mir.Syntax.{w64}
-use mir.Facts.{toZ-ofZ}
 use mathlib.Core.Path.{_∙_, sym, ap}
 use native.Mathlib.Omega.{arith}
-use borrow.Author.Needs.{needs, sfits-of}
+use borrow.Author.Needs.{needs}
 use Rattle.format.specs.Layout.{layout32, standard}
-use Rattle.format.specs.Bytes.{AllBytes}
 use Rattle.format.specs.Laws.Calls.Numbers.{walk-fits}
 use Rattle.fieldmap.specs.Answers.{walkOf}
 use Rattle.exports.specs.Answers.{walkWritten, walkCount}
-use Rattle.exports.proofs.Given.{code-given, code-refused, told-given, told-refused, store-given, store-refused}
+use Rattle.exports.proofs.Given.{answers-given, answers-refused, returned, store-given, store-refused}
 use Rattle.exports.proofs.read.fieldmap_walk.Statement.{statement}
 use Rattle.exports.proofs.read.fieldmap_walk.Tie as tie
-
-bytes : (k : tie.After-shared-slice-known) → AllBytes (k .before .args .archive .now)
-bytes k i = k .shared-slice-known .given i .fits
 
 given-requires : tie.Need-given-requires
 given-requires c κs =
     let call : tie.After-walk = search in
     let told : tie.After-written = search in
+    let known : tie.After-shared-slice-known = search in
     let e = sym (call .walk .ensures .0) ∙ ap walkOf (told .written .given .1) in
-    omega (arith, walk-fits layout32 standard _ (bytes (search)) _ _ _ e)
+    omega (arith, walk-fits layout32 standard _ (λ i. known .shared-slice-known .given i .fits) _ _ _ e)
 
 returns : tie.Need-returns
 returns c =
     let call : tie.After-walk = search in
-    let p = call .walk .ensures in
-    let e = sym (p .0) ∙ ap walkOf (c .before .before .why .given .1) in
-    let r = toZ-ofZ {w = w64} (sfits-of (c .refused .ok)) ∙ c .refused .ensures in
-    (code-refused walkWritten e r, (told-refused (c .before .before .why .given .0 .0) e r, (p .1 .0, (p .1 .1, store-refused walkCount _ e))))
+    let (answer, lists) = call .walk .ensures in
+    let e = sym answer ∙ ap walkOf (c .before .before .why .given .1) in
+    answers-refused walkWritten (c .before .before .why .given .0 .0) e (c .refused .ok) (c .refused .ensures)
+    (lists .0, (lists .1, store-refused walkCount _ e))
 
 returns-2 : tie.Need-returns-2
 returns-2 c =
     let told : tie.After-written = search in
     let call : tie.After-walk = search in
-    let p = call .walk .ensures in
-    let e = sym (p .0) ∙ ap walkOf (told .written .given .1) in
-    let r = toZ-ofZ {w = w64} (sfits-of (c .given .ok)) ∙ c .given .ensures in
-    (code-given walkWritten e r, (told-given e r, (p .1 .0, (p .1 .1, store-given walkCount _ e))))
+    let (answer, lists) = call .walk .ensures in
+    let e = sym answer ∙ ap walkOf (told .written .given .1) in
+    answers-given walkWritten e (returned (c .given .ok) (c .given .ensures)) (lists .0, (lists .1, store-given walkCount _ e))
 
 pub fieldmap-walk-spec : {M : Type 1} → statement M
 fieldmap-walk-spec =

@@ -1,14 +1,12 @@
 -- `exports::write::fieldmap_build_length` meets its contract. Assumes nothing.
-use mir.Syntax.{w64}
-use mir.Facts.{toZ-ofZ}
 use Prim.Native.Nat.{ℕ}
 use mathlib.Core.Path.{_∙_, sym, ap}
 use native.Mathlib.Omega.{arith}
-use borrow.Author.Needs.{needs, sfits-of}
+use borrow.Author.Needs.{needs}
 use Rattle.format.specs.Layout.{standard}
 use Rattle.format.specs.Laws.Calls.Numbers.{length-fits}
 use Rattle.builder.specs.Answers.{builtOf}
-use Rattle.exports.proofs.Given.{code-given, code-refused, told-given, told-refused}
+use Rattle.exports.proofs.Given.{code-given, code-refused, told-given, told-refused, returned}
 use Rattle.exports.proofs.write.fieldmap_build_length.Statement.{statement}
 use Rattle.exports.proofs.write.fieldmap_build_length.Tie as tie
 
@@ -24,14 +22,14 @@ returns c =
     let call : tie.After-build-length = search in
     let told : tie.After-end = search in
     let e = sym (call .build-length .ensures) ∙ ap builtOf (told .end .given .1) in
-    let r = toZ-ofZ {w = w64} (sfits-of (c .given .ok)) ∙ c .given .ensures in
+    let r = returned (c .given .ok) (c .given .ensures) in
     (code-given (λ (n : ℕ). n) e r, told-given e r)
 
 returns-2 : tie.Need-returns-2
 returns-2 c =
     let call : tie.After-build-length = search in
     let e = sym (call .build-length .ensures) ∙ ap builtOf (c .before .before .why .given .1) in
-    let r = toZ-ofZ {w = w64} (sfits-of (c .refused .ok)) ∙ c .refused .ensures in
+    let r = returned (c .refused .ok) (c .refused .ensures) in
     (code-refused (λ (n : ℕ). n) e r, told-refused (c .before .before .why .given .0 .0) e r)
 
 pub fieldmap-build-length-spec : {M : Type 1} → statement M
