@@ -92,7 +92,7 @@ module _ (L : Layout) (s : List ℕ) (p key : ℕ) where
       go equal h = omega (arith, e)
       go greater h = h
 
-  pub seek-within : (n : ℕ) → Within n (seekAt L s p key n 0)
+  seek-within : (n : ℕ) → Within n (seekAt L s p key n 0)
   seek-within n = scan-within n 0 n (omega arith)
 
   -- r is what the scan gave.
@@ -175,7 +175,8 @@ module _ (L : Layout) (M : Limits) (s : List ℕ) where
   pub leaf-count : {p : ℕ} (n : ℕ) → Node L M s p → getD s p 0 ≡ 0 → n ≡ leafCount L s p → n ≤ L .entries
   leaf-count n v h e = let c = as-leaf L M s v h .count in omega arith
 
-  pub leaf-slot : {p : ℕ} (key n i : ℕ) (r : Seek) → Node L M s p → getD s p 0 ≡ 0 → n ≡ leafCount L s p → r ≡ seekAt L s p key n 0 → r ≡ Equal i → i < L .entries
+  pub leaf-slot : {p : ℕ} (key n i : ℕ) (r : Seek) → Node L M s p → getD s p 0 ≡ 0 → n ≡ leafCount L s p → r ≡ seekAt L s p key n 0
+      → r ≡ Equal i → i < L .entries
   leaf-slot {p} key n i r v h e q k = let l = seek-slot L s p key n i r q k in let c = leaf-count n v h e in omega arith
 
 -- ---- the value that is found lies within the bytes

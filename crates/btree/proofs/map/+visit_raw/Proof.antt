@@ -1,8 +1,8 @@
 -- `btree::map::visit_raw` meets its contract: the node's position falls. Assumes nothing.
 use Prim.Native.Nat.{ℕ, _+_, _-_, _≤_, _<_}
-use mathlib.Core.Path.{_≡_, ap, _∙_}
+use mathlib.Core.Path.{_≡_}
 use mathlib.Core.List.{[]}
-use mathlib.Core.Logic.{⊎-elim}
+use mathlib.Core.Logic.{⊎-elim, ⊎-map}
 use native.Mathlib.Omega.{arith}
 use lib.ListN.{length}
 use Rattle.format.specs.Layout.{layout32, leafSize, standard, nested}
@@ -10,7 +10,8 @@ use Rattle.format.specs.Node.{child}
 use Rattle.format.specs.Entries.{listAt, listChildren}
 use Rattle.format.specs.Laws.Read.Children.{onChild, childAt}
 use Rattle.format.specs.Laws.Read.Node.{as-leaf, as-inner, node-room, child-falls}
-use Rattle.format.specs.Laws.Read.Written.{out, fill}
+use Rattle.format.specs.Laws.Read.Written.{out, put, fill, runs-none}
+use Rattle.btree.specs.NextChild.{next-child}
 use Rattle.btree.proofs.Fills.{full-kept}
 use Rattle.btree.proofs.Runs.{child-run, child-skipped, inner-step, inner-done, leaf-run}
 use borrow.Author.Needs.{needs}
@@ -52,37 +53,30 @@ abbrev Of : ℕ → (lts.Claims → In 3 kinds.ps → Out 3 kinds.ps kinds.r →
 Of t need = need (calls t) (here t) visit-raw.Post Inv-loop μ-loop
 
 -- Where the arms of the child's test meet: the child's entries are written, or there is no child.
-joined : (t : ℕ) (c : Of t lts.At-match-came)
-    → let o = c .before .before .before .loop in
-    let a = c .before .before .before .before .before .before .before .before .before .before .before .args in
-    let f = childAt layout32 (a .archive .now) (child layout32 (a .pos .0) (o .i)) in
-    (length (c .match .keys) ≡ length (o .keys)) × (length (c .match .values) ≡ length (o .values))
-    × (out (c .match .keys) (c .match .values) (c .match .at)
-    ≡ fill (onChild [] (listAt layout32 (a .archive .now) (nested standard)) f) (out (o .keys) (o .values) (o .at)))
-joined t c =
-    ⊎-elim
-    (λ w. (
-      ap length (w .10) ∙ w .5 .kept .1 .1 .0,
-      ap length (w .11) ∙ w .5 .kept .1 .1 .1 .0,
-      rw (w .10, w .11, w .12) (child-run _ _ _ _ _ _ _ _ _ _ (c .before .child-at .ensures) (w .1 .given .1) (w .5 .ensures)),
-    ))
-    (λ w. (
-      ap length (w .2),
-      ap length (w .3),
-      rw (w .2, w .3, w .4) (child-skipped _ _ _ _ _ _ _ _ (c .before .child-at .ensures) (w .1 .given .1)),
-    ))
-    (c .match .came)
+module _ (t : ℕ) (c : Of t lts.At-match-came) where
+  abbrev head : Of t lts.At-loop
+  head = search
+
+  abbrev start : Of t lts.Start
+  start = search
+
+  lengths : (length (c .match .keys) ≡ length (head .loop .keys)) × (length (c .match .values) ≡ length (head .loop .values))
+  lengths = ⊎-elim (λ w. (cc, cc)) (λ w. (cc, cc)) (c .match .came)
+
+  joined : out (c .match .keys) (c .match .values) (c .match .at)
+      ≡ fill (onChild [] (listAt layout32 (start .args .archive .now) (nested standard))
+      (childAt layout32 (start .args .archive .now) (child layout32 (start .args .pos .0) (head .loop .i))))
+      (out (head .loop .keys) (head .loop .values) (head .loop .at))
+  joined =
+      next-child layout32 _ fill [] (runs-none put) _ _ _ _ _ _ (c .before .child-at .ensures)
+      (⊎-map (λ w. (_, w .1 .given .1, cc)) (λ w. (w .1 .given .1, cc)) (c .match .came))
 
 returns : (t : ℕ) → Of t lts.Need-returns
 returns t c =
-    let a = c .before .before .before .before .args in
-    ⊎-elim
-    (λ w. full-kept _ _ _ _ (omega (arith, w .taken)))
-    (λ w. full-kept _ _ _ _ (omega (arith, leb-true (length (a .values .now)) (a .start) (w .1 .taken))))
-    (c .if1 .came)
+    ⊎-elim (λ w. full-kept _ _ _ _ (omega arith)) (λ w. full-kept _ _ _ _ (omega (arith, leb-true))) (c .if1 .came)
 
 shared-slice-read-if3 : (t : ℕ) → Of t lts.Need-shared-slice-read-if3
-shared-slice-read-if3 t c = omega (arith, node-room layout32 _ _ (c .before .before .before .before .before .before .pre .1))
+shared-slice-read-if3 t c = let start : Of t lts.Start = search in omega (arith, node-room layout32 _ _ (start .pre .1))
 
 visit-leaf-requires : (t : ℕ) → Of t lts.Need-visit-leaf-requires
 visit-leaf-requires t c κs = search as-leaf
@@ -98,21 +92,24 @@ child-at-requires t c κs = (search as-inner, omega arith)
 
 visit-raw-requires : (t : ℕ) → Of t lts.Need-visit-raw-requires
 visit-raw-requires t c κs =
-    let at-q = c .before .before .before in
-    child-falls layout32 _ _ _ (search) (search) (search) (omega arith) (at-q .before .before .child-at .ensures) (at-q .q .given .1)
+    let there : Of t lts.After-q = search in
+    let read : Of t lts.After-child-at = search in
+    child-falls layout32 _ _ _ (search) (search) (search) (omega arith) (read .child-at .ensures) (there .q .given .1)
 
 loop-again : (t : ℕ) → Of t lts.Need-loop-again
 loop-again t c =
-    let j = joined t (c .before .before .before .before .before .before .before) in
-    (search needs, search needs, cc, cc, search (inner-step, j .2))
+    let met : Of t lts.At-match-came = search in
+    let l = lengths t met in
+    (search needs, search needs, cc, cc, search (inner-step, joined t met))
 
 child-at-requires-2 : (t : ℕ) → Of t lts.Need-child-at-requires-2
 child-at-requires-2 t c κs = (search as-inner, omega arith)
 
 visit-raw-requires-2 : (t : ℕ) → Of t lts.Need-visit-raw-requires-2
 visit-raw-requires-2 t c κs =
-    let at-q = c .before .before .before in
-    child-falls layout32 _ _ 5 (search) (search) (search) (omega arith) (at-q .before .before .child-at2 .ensures) (at-q .q2 .given .1)
+    let there : Of t lts.After-q2 = search in
+    let read : Of t lts.After-child-at2 = search in
+    child-falls layout32 _ _ 5 (search) (search) (search) (omega arith) (read .child-at2 .ensures) (there .q2 .given .1)
 
 returns-3 : (t : ℕ) → Of t lts.Need-returns-3
 returns-3 t c = search (inner-done, child-run)

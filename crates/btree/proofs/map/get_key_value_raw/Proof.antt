@@ -47,19 +47,19 @@ returns-4 : tie.Need-returns-4 Inv-loop μ-loop
 returns-4 c = search inner-miss
 
 -- The child that the loop goes on with lies lower, and is accepted.
-down : (c : tie.After-known-told4 Inv-loop μ-loop)
-    → let q = c .before .q .given .0 .0 in
-    let at-loop = c .before .before .before .before .before .before .before .before .before .before in
-    (q .0 < at-loop .loop .current .0) × Node layout32 standard (at-loop .before .before .args .archive .now) (q .0)
+down : (c : tie.After-q Inv-loop μ-loop)
+    → let head : tie.At-loop Inv-loop μ-loop = search in
+    let q = c .q .given .0 .0 .0 in
+    (q < head .loop .current .0) × Node layout32 standard (head .before .before .args .archive .now) q
 down c =
-    let at-loop = c .before .before .before .before .before .before .before .before .before .before in
-    child-falls layout32 _ _ _ refl (at-loop .loop .inv .1) (search) (search (seek-child layout32)) (c .before .before .before .child-at .ensures) (c .before .q .given .1)
+    let read : tie.After-child-at Inv-loop μ-loop = search in
+    child-falls layout32 _ _ _ refl (search) (search) (search (seek-child layout32)) (read .child-at .ensures) (c .q .given .1)
 
 loop-less : tie.Need-loop-less Inv-loop μ-loop
-loop-less c = down c .0
+loop-less c = down (c .before) .0
 
 loop-again : tie.Need-loop-again Inv-loop μ-loop
-loop-again c = (node-room layout32 _ _ (down c .1), down c .1, search inner-down)
+loop-again c = let d = down (c .before) .1 in (node-room layout32 _ _ d, d, search inner-down)
 
 pub get-key-value-raw-spec : {M : Type 1} → statement M
 get-key-value-raw-spec =
