@@ -17,7 +17,7 @@ use Rattle.format.specs.Layout.{Layout}
 use Rattle.format.specs.Bytes.{AllBytes}
 use Rattle.format.specs.Node.{Kind, leaf, inner, other, child, kind, keyAt, leafCount, slot}
 use Rattle.format.specs.Entries.{slots, listChild, listChildren, listBody, listAt}
-use Rattle.format.specs.Range.{matches, select}
+use Rattle.format.specs.Range.{keyMeetsLower, keyMeetsUpper, matches, select}
 use Rattle.format.specs.Laws.Certify.Ascend.{Under}
 use Rattle.format.specs.Laws.Numbers.Bytes.{leAt-lt}
 use Rattle.format.specs.Laws.Read.Children.{childAt, onChild, list-child}
@@ -25,6 +25,7 @@ use Rattle.format.specs.Laws.Range.List.{matches-none}
 use Rattle.format.specs.Laws.Check.Reach.{true≢false}
 use Rattle.format.specs.Laws.Read.Written.{out, walked, none-walked}
 use Rattle.ranges.specs.Endpoints.{From, UpTo}
+use Rattle.ranges.specs.declared.iter.Endpoint.{Endpoint}
 use Rattle.ranges.specs.declared.iter.Endpoint.the-variants.{Key, Nothing}
 
 -- ---- the ends of a bound
@@ -92,7 +93,8 @@ module _ (L : Layout) (s : List ℕ) (b : AllBytes s) where
     unfolding listChildren
     children-under p zero i = child-under (child L p i)
     children-under p (suc k) i =
-        under-append (2 ^ 64) (listChild L s give (child L p i)) (slot L s p i ∷ listChildren L s give p k (suc i)) (child-under (child L p i)) (slot-under p i, children-under p k (suc i))
+        under-append (2 ^ 64) (listChild L s give (child L p i)) (slot L s p i ∷ listChildren L s give p k (suc i)) (child-under (child L p i))
+        (slot-under p i, children-under p k (suc i))
 
     body-under : (p : ℕ) (k : Kind) → Under (2 ^ 64) (listBody L s give p k)
     unfolding listBody
@@ -120,21 +122,25 @@ module _ (f : Entry → Bool) where
   none [] u h = refl
   none (x ∷ es) u h = rw (h x (u .0), select) (none es (u .1) h)
 
+-- r and t are the ends that the code has of the two bounds.
 module _ (lower upper : Bound) (L : Layout) (s : List ℕ) (b : AllBytes s) (d p : ℕ) where
-  pub ends-same : (least greatest : ℕ) → From lower (Key least) → UpTo upper (Key greatest)
+  pub ends-same : {r t : Endpoint} (least greatest : ℕ) → From lower r → r ≡ Key least → UpTo upper t → t ≡ Key greatest
       → select (matches lower upper) (listAt L s d p) ≡ select (matches (Included least) (Included greatest)) (listAt L s d p)
-  ends-same least greatest f t =
-      same (matches lower upper) (matches (Included least) (Included greatest)) (listAt L s d p) (list-under L s b d p) (λ x h. by x h (leb least (x .key)) refl)
+  ends-same least greatest f er g et =
+      same (matches lower upper) (matches (Included least) (Included greatest)) (listAt L s d p) (list-under L s b d p)
+      (λ x h. by x (leb least (x .key)) refl ((rw er at f) (x .key) h) ((rw et at g) (x .key) h))
     where
-      by : (x : Entry) → x .key < 2 ^ 64 → (v : Bool) → leb least (x .key) ≡ v → matches lower upper x ≡ matches (Included least) (Included greatest) x
-      by x h true e = rw (f (x .key) h ∙ e, e, matches) (t (x .key) h)
-      by x h false e = rw (f (x .key) h ∙ e, e, matches)
+      by : (x : Entry) (v : Bool) → leb least (x .key) ≡ v → keyMeetsLower lower (x .key) ≡ leb least (x .key)
+          → keyMeetsUpper upper (x .key) ≡ leb (x .key) greatest → matches lower upper x ≡ matches (Included least) (Included greatest) x
+      by x true e l u = rw (l ∙ e, e, matches) u
+      by x false e l u = rw (l ∙ e, e, matches)
 
-  pub none-from : From lower Nothing → select (matches lower upper) (listAt L s d p) ≡ []
-  none-from f = none _ (listAt L s d p) (list-under L s b d p) (λ x h. matches-none lower upper x (λ m. absurd (true≢false m (f (x .key) h))))
+  pub none-from : {r : Endpoint} → From lower r → r ≡ Nothing → select (matches lower upper) (listAt L s d p) ≡ []
+  none-from f e =
+      none _ (listAt L s d p) (list-under L s b d p) (λ x h. matches-none lower upper x (λ m. absurd (true≢false m ((rw e at f) (x .key) h))))
 
-  pub none-upto : UpTo upper Nothing → select (matches lower upper) (listAt L s d p) ≡ []
-  none-upto t = none _ (listAt L s d p) (list-under L s b d p) (λ x h. matches-none lower upper x (λ _. t (x .key) h))
+  pub none-upto : {t : Endpoint} → UpTo upper t → t ≡ Nothing → select (matches lower upper) (listAt L s d p) ≡ []
+  none-upto g e = none _ (listAt L s d p) (list-under L s b d p) (λ x h. matches-none lower upper x (λ _. (rw e at g) (x .key) h))
 
 pub none-written : (es : List Entry) (ks vs : List ℕ) → es ≡ [] → (out ks vs 0 ≡ walked es ks vs) × (0 ≡ length es)
 none-written es ks vs e = rw e (sym (none-walked ks vs), refl)

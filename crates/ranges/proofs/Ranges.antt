@@ -23,7 +23,8 @@ use Rattle.format.specs.Laws.Certify.Ascend.{Split, split}
 use Rattle.format.specs.Laws.Read.Bounds.{node-few}
 use Rattle.format.specs.Laws.Read.Children.{childAt, onChild, on-at}
 use Rattle.format.specs.Laws.Read.Node.{Node, InnerNode, kind-leaf}
-use Rattle.format.specs.Laws.Range.Ranged.{Sink, sink, taken, rangeStep, ranged, select-few, step-hit, all-ranged, runs-matching, runs-rise, pass-lower, stop-upper}
+use Rattle.format.specs.Laws.Range.Ranged.{Sink, sink, taken, rangeStep, ranged, select-few, step-hit}
+use Rattle.format.specs.Laws.Range.Ranged.{all-ranged, runs-matching, runs-rise, pass-lower, stop-upper}
 use Rattle.format.specs.Laws.Read.Written.{walked, runs-none, runs-cons, runs-append}
 use Rattle.btree.proofs.Runs.{slots-more, children-more, children-last, entries-leaf, entries-inner, leaf-step, inner-step, inner-done}
 
@@ -70,7 +71,8 @@ module _ (L : Layout) (s : List ℕ) where
       pub child-ascends : r ≡ childAt L s (child L p i) → i < L .entries → Ascending (rest M p i) → Ascending (listAt L s (nested M) (q .0))
       child-ascends c h a = rw (on-at [] (listAt L s (nested M)) (childAt L s (child L p i)) q (sym c ∙ e)) at (parts h a .left)
 
-      pub last-ascends : r ≡ childAt L s (child L p (L .entries)) → L .entries ≤ i → i ≤ L .entries → Ascending (rest M p i) → Ascending (listAt L s (nested M) (q .0))
+      pub last-ascends : r ≡ childAt L s (child L p (L .entries)) → L .entries ≤ i → i ≤ L .entries → Ascending (rest M p i)
+          → Ascending (listAt L s (nested M) (q .0))
       last-ascends c h l a =
           let z : i ≡ L .entries = omega arith in
           let c′ : r ≡ childAt L s (child L p i) = rw z c in
@@ -128,7 +130,8 @@ module _ (L : Layout) (s : List ℕ) where
           omega arith
 
     pub whole-leaf-fits : (M : Limits) (p m top : ℕ) → Node L M s p → getD s p 0 ≡ 0
-        → m + length (select (matches lower upper) (listAt L s (nested M) p)) < top → m + length (select (matches lower upper) (slots L s p (leafCount L s p) 0)) < top
+        → m + length (select (matches lower upper) (listAt L s (nested M) p)) < top
+        → m + length (select (matches lower upper) (slots L s p (leafCount L s p) 0)) < top
     whole-leaf-fits M p m top v h f = rw (entries-leaf L s M p v h) at f
 
     -- ---- the loop over an inner node's lesser children and slots
@@ -164,8 +167,8 @@ module _ (L : Layout) (s : List ℕ) where
             sym (runs-append (rangeStep lower upper) (at-child M p i) (slot L s p i ∷ rest M p (i + 1)) o)
             ∙ (rw (children-more L s (listAt L s (nested M)) p (L .entries) i l) at whole)
 
-        pub inner-stop : (o₁ : Sink) → i < L .entries → Ascending (rest M p i) → meetsUpper upper (slot L s p i) ≡ false → o₁ ≡ ranged lower upper (at-child M p i) o
-            → o₁ ≡ ranged lower upper (listAt L s (nested M) p) o₀
+        pub inner-stop : (o₁ : Sink) → i < L .entries → Ascending (rest M p i) → meetsUpper upper (slot L s p i) ≡ false
+            → o₁ ≡ ranged lower upper (at-child M p i) o → o₁ ≡ ranged lower upper (listAt L s (nested M) p) o₀
         inner-stop o₁ l asc f t =
             let m = children-more L s (listAt L s (nested M)) p (L .entries) i l in
             t ∙ sym (stop-upper lower upper (at-child M p i) (slot L s p i) (rest M p (i + 1)) o (rw m at asc) f) ∙ (rw m at whole)
@@ -174,7 +177,8 @@ module _ (L : Layout) (s : List ℕ) where
 
         module _ (top : ℕ) (f : o₀ .matching + length (select (matches lower upper) (listAt L s (nested M) p)) < top) where
           module _ (r : Child) (x : Position) (e : r ≡ At x) where
-            pub child-fits : i < L .entries → r ≡ childAt L s (child L p i) → o .matching + length (select (matches lower upper) (listAt L s (nested M) (x .0))) < top
+            pub child-fits : i < L .entries → r ≡ childAt L s (child L p i)
+                → o .matching + length (select (matches lower upper) (listAt L s (nested M) (x .0))) < top
             child-fits l c =
                 let w = runs-rise lower upper _ _ _ o₀ (after-child l) in
                 let m = runs-matching lower upper (at-child M p i) o in

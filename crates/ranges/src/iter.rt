@@ -96,7 +96,9 @@ fn range_leaf(
 ) -> Ranged
     requires { ⌜ LeafNode layout32 (now archive) (pos .0) ⌝ }
     requires { ⌜ Ascending (slots layout32 (now archive) (pos .0) (leafCount layout32 (now archive) (pos .0)) 0) ⌝ }
-    requires { ⌜ start .matching + length (select (matches (Included least) (Included greatest)) (slots layout32 (now archive) (pos .0) (leafCount layout32 (now archive) (pos .0)) 0)) < 2 ^ 64 ⌝ }
+    requires { ⌜ start .matching
+        + length (select (matches (Included least) (Included greatest)) (slots layout32 (now archive) (pos .0) (leafCount layout32 (now archive) (pos .0)) 0))
+        < 2 ^ 64 ⌝ }
     ensures { λ r. ⌜ sink (now (keys .exit)) (now (values .exit)) (r .written) (r .matching)
         ≡ ranged (Included least) (Included greatest) (slots layout32 (now (archive .entry)) (pos .0) (leafCount layout32 (now (archive .entry)) (pos .0)) 0)
         (sink (now (keys .entry)) (now (values .entry)) (start .written) (start .matching)) ⌝ }
@@ -131,7 +133,8 @@ fn range_inner(
     requires { ⌜ Node layout32 standard (now archive) (pos .0) ⌝ }
     requires { ⌜ InnerNode layout32 (now archive) (pos .0) ⌝ }
     requires { ⌜ Ascending (listAt layout32 (now archive) (nested standard) (pos .0)) ⌝ }
-    requires { ⌜ start .matching + length (select (matches (Included least) (Included greatest)) (listAt layout32 (now archive) (nested standard) (pos .0))) < 2 ^ 64 ⌝ }
+    requires { ⌜ start .matching + length (select (matches (Included least) (Included greatest)) (listAt layout32 (now archive) (nested standard) (pos .0)))
+        < 2 ^ 64 ⌝ }
     ensures { λ r. ⌜ sink (now (keys .exit)) (now (values .exit)) (r .written) (r .matching)
         ≡ ranged (Included least) (Included greatest) (listAt layout32 (now (archive .entry)) (nested standard) (pos .0))
         (sink (now (keys .entry)) (now (values .entry)) (start .written) (start .matching)) ⌝ }
@@ -169,7 +172,8 @@ fn range_node(
 ) -> Ranged
     requires { ⌜ Node layout32 standard (now archive) (pos .0) ⌝ }
     requires { ⌜ Ascending (listAt layout32 (now archive) (nested standard) (pos .0)) ⌝ }
-    requires { ⌜ start .matching + length (select (matches (Included least) (Included greatest)) (listAt layout32 (now archive) (nested standard) (pos .0))) < 2 ^ 64 ⌝ }
+    requires { ⌜ start .matching + length (select (matches (Included least) (Included greatest)) (listAt layout32 (now archive) (nested standard) (pos .0)))
+        < 2 ^ 64 ⌝ }
     ensures { λ r. ⌜ sink (now (keys .exit)) (now (values .exit)) (r .written) (r .matching)
         ≡ ranged (Included least) (Included greatest) (listAt layout32 (now (archive .entry)) (nested standard) (pos .0))
         (sink (now (keys .entry)) (now (values .entry)) (start .written) (start .matching)) ⌝ }
@@ -194,7 +198,8 @@ fn range_root(
 ) -> Ranged
     requires { ⌜ Node layout32 standard (now archive) (pos .0) ⌝ }
     requires { ⌜ Ascending (listAt layout32 (now archive) (nested standard) (pos .0)) ⌝ }
-    requires { ⌜ start .matching + length (select (matches (Included least) (Included greatest)) (listAt layout32 (now archive) (nested standard) (pos .0))) < 2 ^ 64 ⌝ }
+    requires { ⌜ start .matching + length (select (matches (Included least) (Included greatest)) (listAt layout32 (now archive) (nested standard) (pos .0)))
+        < 2 ^ 64 ⌝ }
     ensures { λ r. ⌜ sink (now (keys .exit)) (now (values .exit)) (r .written) (r .matching)
         ≡ ranged (Included least) (Included greatest) (listAt layout32 (now (archive .entry)) (nested standard) (pos .0))
         (sink (now (keys .entry)) (now (values .entry)) (start .written) (start .matching)) ⌝ }
@@ -218,7 +223,8 @@ pub fn range_with(
     requires { ⌜ Node layout32 standard (now archive) (root .0) ⌝ }
     requires { ⌜ Ascending (listAt layout32 (now archive) (nested standard) (root .0)) ⌝ }
     ensures { λ r. ⌜ out (now (keys .exit)) (now (values .exit)) (r .written)
-        ≡ walked (select (matches lower upper) (listAt layout32 (now (archive .entry)) (nested standard) (root .0))) (now (keys .entry)) (now (values .entry)) ⌝ }
+        ≡ walked (select (matches lower upper) (listAt layout32 (now (archive .entry)) (nested standard) (root .0)))
+        (now (keys .entry)) (now (values .entry)) ⌝ }
     ensures { λ r. ⌜ r .matching ≡ length (select (matches lower upper) (listAt layout32 (now (archive .entry)) (nested standard) (root .0))) ⌝ }
 {
     let none = Ranged {

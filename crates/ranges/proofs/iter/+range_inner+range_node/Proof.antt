@@ -1,8 +1,9 @@
 -- `ranges::iter::range_inner` and `ranges::iter::range_node`, which call each other, meet their contracts: the node's position falls. Assumes nothing.
 use Prim.Native.Nat.{ℕ, _+_, _-_, _<_, _≤_}
-use mathlib.Core.Path.{_≡_, refl, ap, _∙_}
+use mathlib.Core.Path.{_≡_, refl, _∙_}
+use mathlib.Core.List.{[]}
 use mathlib.Core.Bool.{true}
-use mathlib.Core.Logic.{⊎-elim}
+use mathlib.Core.Logic.{⊎-elim, ⊎-map}
 use native.Mathlib.Omega.{arith}
 use lib.ListN.{length}
 use Rattle.format.specs.declared.Bound.the-variants.{Included}
@@ -11,244 +12,236 @@ use Rattle.format.specs.Node.{slot}
 use Rattle.format.specs.Certify.{Ascending}
 use Rattle.format.specs.Range.{matches}
 use Rattle.format.specs.Laws.Read.Node.{as-leaf, as-inner, node-room, child-falls}
+use Rattle.format.specs.Laws.Read.Written.{runs-none}
 use Rattle.format.specs.Laws.Range.Ranged.{sink, ranged}
+use Rattle.btree.specs.NextChild.{next-child}
 use Rattle.btree.proofs.Runs.{leaf-run, child-run, child-skipped}
-use Rattle.ranges.proofs.Ranges.{rest, at-child, leaf-ascends, inner-ascends, rest-ascends, child-ascends, last-ascends, not-leaf, slot-low, slot-past, slot-matches, whole-leaf-fits, inner-pass, inner-stop, inner-take, inner-end, child-fits, last-fits, slot-fits}
+use Rattle.ranges.proofs.Ranges.{rest, at-child, leaf-ascends, inner-ascends, rest-ascends, child-ascends, last-ascends, not-leaf}
+use Rattle.ranges.proofs.Ranges.{slot-low, slot-past, slot-matches, inner-pass, inner-stop, inner-take, inner-end}
+use Rattle.ranges.proofs.Ranges.{whole-leaf-fits, child-fits, last-fits, slot-fits}
 use borrow.Author.Needs.{needs}
 use borrow.Fn.Kinds.{In, Out}
 use borrow.Fn.PlainCycle.{Measures, is, falls, and}
 use Rattle.ranges.proofs.iter.range_inner.Reads as range-inner
-use Rattle.ranges.proofs.iter.range_inner.Kinds as range-inner-kinds
-use Rattle.ranges.proofs.iter.+range_inner+range_node.Lts-range_inner as range-inner-lts
+use Rattle.ranges.proofs.iter.range_inner.Kinds as inner-kinds
+use Rattle.ranges.proofs.iter.+range_inner+range_node.Lts-range_inner as inner-lts
 use Rattle.ranges.proofs.iter.range_node.Reads as range-node
-use Rattle.ranges.proofs.iter.range_node.Kinds as range-node-kinds
-use Rattle.ranges.proofs.iter.+range_inner+range_node.Lts-range_node as range-node-lts
-use Rattle.btree.proofs.node.child_at.Reads as child-at-reads
-use Rattle.fields.proofs.primitive.u64_at.Reads as u64-at-reads
-use Rattle.ranges.proofs.iter.range_leaf.Reads as range-leaf-reads
-use Rattle.ranges.proofs.iter.range_slot.Reads as range-slot-reads
+use Rattle.ranges.proofs.iter.range_node.Kinds as node-kinds
+use Rattle.ranges.proofs.iter.+range_inner+range_node.Lts-range_node as node-lts
+use Rattle.btree.proofs.node.child_at.Reads as child-at
+use Rattle.fields.proofs.primitive.u64_at.Reads as u64-at
+use Rattle.ranges.proofs.iter.range_leaf.Reads as range-leaf
+use Rattle.ranges.proofs.iter.range_slot.Reads as range-slot
 use Rattle.ranges.proofs.iter.+range_inner+range_node.{statement}
 use Rattle.ranges.proofs.iter.+range_inner+range_node.Tie.{close}
 
-abbrev μ-range-inner : Measures 3 range-inner-kinds.ps ℕ
-μ-range-inner κs a = a .1 .0 .0 + a .1 .0 .0
+abbrev μ-inner : Measures 3 inner-kinds.ps ℕ
+μ-inner κs a = a .1 .0 .0 + a .1 .0 .0
 
-abbrev μ-range-node : Measures 3 range-node-kinds.ps ℕ
-μ-range-node κs a = a .1 .0 .0 + a .1 .0 .0 + 1
+abbrev μ-node : Measures 3 node-kinds.ps ℕ
+μ-node κs a = a .1 .0 .0 + a .1 .0 .0 + 1
 
-abbrev range-inner-at : ℕ → In 3 range-inner-kinds.ps
-range-inner-at t =
-    and 3 range-inner-kinds.ps (is 3 range-inner-kinds.ps μ-range-inner t) range-inner.Pre
+abbrev inner-at : ℕ → In 3 inner-kinds.ps
+inner-at t =
+    and 3 inner-kinds.ps (is 3 inner-kinds.ps μ-inner t) range-inner.Pre
 
-abbrev range-inner-below : ℕ → In 3 range-inner-kinds.ps
-range-inner-below t =
-    and 3 range-inner-kinds.ps (falls 3 range-inner-kinds.ps _<_ μ-range-inner t) range-inner.Pre
+abbrev inner-below : ℕ → In 3 inner-kinds.ps
+inner-below t =
+    and 3 inner-kinds.ps (falls 3 inner-kinds.ps _<_ μ-inner t) range-inner.Pre
 
-abbrev range-node-at : ℕ → In 3 range-node-kinds.ps
-range-node-at t =
-    and 3 range-node-kinds.ps (is 3 range-node-kinds.ps μ-range-node t) range-node.Pre
+abbrev node-at : ℕ → In 3 node-kinds.ps
+node-at t =
+    and 3 node-kinds.ps (is 3 node-kinds.ps μ-node t) range-node.Pre
 
-abbrev range-node-below : ℕ → In 3 range-node-kinds.ps
-range-node-below t =
-    and 3 range-node-kinds.ps (falls 3 range-node-kinds.ps _<_ μ-range-node t) range-node.Pre
+abbrev node-below : ℕ → In 3 node-kinds.ps
+node-below t =
+    and 3 node-kinds.ps (falls 3 node-kinds.ps _<_ μ-node t) range-node.Pre
 
-abbrev range-inner-Inv-loop : range-inner-lts.InvT-loop
-range-inner-Inv-loop archive pos least greatest keys₀ values₀ p done₀ i₀ keys values done i =
+abbrev Inv-loop : inner-lts.InvT-loop
+Inv-loop archive pos least greatest keys₀ values₀ p done₀ i₀ keys values done i =
     (i ≤ 5) × (pos .0 + leafSize layout32 ≤ length archive) × (length keys ≡ length keys₀) × (length values ≡ length values₀)
     × Ascending (rest layout32 archive standard (pos .0) i)
     × (ranged (Included least) (Included greatest) (rest layout32 archive standard (pos .0) i) (sink keys values (done .written) (done .matching))
     ≡ ranged (Included least) (Included greatest) (rest layout32 archive standard (pos .0) i₀) (sink keys₀ values₀ (done₀ .written) (done₀ .matching)))
 
-abbrev range-inner-μ-loop : range-inner-lts.MeasureT-loop
-range-inner-μ-loop archive pos least greatest keys₀ values₀ p done₀ i₀ keys values done i = 5 - i
+abbrev μ-loop : inner-lts.MeasureT-loop
+μ-loop archive pos least greatest keys₀ values₀ p done₀ i₀ keys values done i = 5 - i
 
-abbrev range-inner-calls : ℕ → range-inner-lts.Claims
-range-inner-calls t = (u64-at-reads.Asked, u64-at-reads.Learnt, child-at-reads.Asked, child-at-reads.Learnt, range-node-below t, range-node.Post, range-slot-reads.Asked, range-slot-reads.Learnt)
+abbrev inner-calls : ℕ → inner-lts.Claims
+inner-calls t =
+    (u64-at.Asked, u64-at.Learnt, child-at.Asked, child-at.Learnt, node-below t, range-node.Post, range-slot.Asked, range-slot.Learnt)
 
--- A need of `range-inner`.
-abbrev In-range-inner : ℕ → (range-inner-lts.Claims → In 3 range-inner-kinds.ps → Out 3 range-inner-kinds.ps range-inner-kinds.r → range-inner-lts.InvT-loop → range-inner-lts.MeasureT-loop → Type 0) → Type 0
-In-range-inner t need = need (range-inner-calls t) (range-inner-at t) range-inner.Post range-inner-Inv-loop range-inner-μ-loop
+-- A place or a need of `range_inner`.
+abbrev In-inner : ℕ
+    → (inner-lts.Claims → In 3 inner-kinds.ps → Out 3 inner-kinds.ps inner-kinds.r → inner-lts.InvT-loop → inner-lts.MeasureT-loop → Type 0)
+    → Type 0
+In-inner t place = place (inner-calls t) (inner-at t) range-inner.Post Inv-loop μ-loop
+
+abbrev head : (t : ℕ) → In-inner t inner-lts.After-child-at → In-inner t inner-lts.At-loop
+head t c = search
+
+abbrev start : (t : ℕ) → In-inner t inner-lts.After-child-at → In-inner t inner-lts.Start
+start t c = search
 
 -- Where the arms of the child's test meet: what the child gives is done, or there is no child.
-joined : (t : ℕ) (c : In-range-inner t range-inner-lts.At-match-came)
-    → let o = c .before .before .before .before .before .loop in
-    let a = c .before .before .before .before .before .before .before .before .before .args in
-    (length (c .match .keys) ≡ length (o .keys)) × (length (c .match .values) ≡ length (o .values))
-    × (sink (c .match .keys) (c .match .values) (c .match .done .written) (c .match .done .matching)
-    ≡ ranged (Included (a .least)) (Included (a .greatest)) (at-child layout32 (a .archive .now) standard (a .pos .0) (o .i))
-    (sink (o .keys) (o .values) (o .done .written) (o .done .matching)))
-joined t c =
-    ⊎-elim
-    (λ w. (
-      ap length (w .10) ∙ w .5 .kept .1 .1 .1 .1 .0,
-      ap length (w .11) ∙ w .5 .kept .1 .1 .1 .1 .1 .0,
-      rw (w .10, w .11, w .12) (child-run layout32 _ _ _ _ _ _ _ _ _ (c .before .child-at .ensures) (w .1 .given .1) (w .5 .ensures)),
-    ))
-    (λ w. (
-      ap length (w .2),
-      ap length (w .3),
-      rw (w .2, w .3, w .4) (child-skipped layout32 _ _ _ _ _ _ _ (c .before .child-at .ensures) (w .1 .given .1)),
-    ))
-    (c .match .came)
+module _ (t : ℕ) (c : In-inner t inner-lts.At-match-came) where
+  lengths : let o = head t (c .before) .loop in (length (c .match .keys) ≡ length (o .keys)) × (length (c .match .values) ≡ length (o .values))
+  lengths = ⊎-elim (λ w. (cc, cc)) (λ w. (cc, cc)) (c .match .came)
+
+  joined : let a = start t (c .before) .args in let o = head t (c .before) .loop in
+      sink (c .match .keys) (c .match .values) (c .match .done .written) (c .match .done .matching)
+      ≡ ranged (Included (a .least)) (Included (a .greatest)) (at-child layout32 (a .archive .now) standard (a .pos .0) (o .i))
+      (sink (o .keys) (o .values) (o .done .written) (o .done .matching))
+  joined =
+      next-child layout32 _ (ranged _ _) [] (runs-none _) _ _ _ _ _ _ (c .before .child-at .ensures)
+      (⊎-map (λ w. (_, w .1 .given .1, rw (w .10, w .11, w .12) (w .5 .ensures))) (λ w. (w .1 .given .1, cc)) (c .match .came))
 
 -- Past both tests the slot matches.
-hit : (t : ℕ) (c : In-range-inner t range-inner-lts.Else2)
-    → let m = c .before in
-    let a = m .before .before .before .before .before .before .before .before .before .args in
-    matches (Included (a .least)) (Included (a .greatest)) (slot layout32 (a .archive .now) (a .pos .0) (m .before .before .before .before .before .loop .i)) ≡ true
-hit t c = let m = c .before in slot-matches layout32 _ _ _ _ (m .before .before .before .u64-at .ensures) _ _ (m .before .before .if1 .left) (c .if2 .left)
+hit : (t : ℕ) (c : In-inner t inner-lts.Else2)
+    → let a = start t (c .before .before) .args in
+    matches (Included (a .least)) (Included (a .greatest)) (slot layout32 (a .archive .now) (a .pos .0) (head t (c .before .before) .loop .i)) ≡ true
+hit t c =
+    let read : In-inner t inner-lts.After-u64-at = search in
+    slot-matches layout32 _ _ _ _ (read .u64-at .ensures) _ _ (search) (search)
 
-range-inner-loop-holds : (t : ℕ) → In-range-inner t range-inner-lts.Need-loop-holds
-range-inner-loop-holds t c = (omega arith, search node-room, refl, refl, search inner-ascends, refl)
+inner-loop-holds : (t : ℕ) → In-inner t inner-lts.Need-loop-holds
+inner-loop-holds t c = (omega arith, search node-room, refl, refl, search inner-ascends, refl)
 
-range-inner-loop-again : (t : ℕ) → In-range-inner t range-inner-lts.Need-loop-again
-range-inner-loop-again t c =
+inner-loop-again : (t : ℕ) → In-inner t inner-lts.Need-loop-again
+inner-loop-again t c =
     let low = slot-low layout32 _ _ _ _ (c .before .u64-at .ensures) _ (c .if1 .taken) in
     (search needs, search needs, search needs, search needs, search rest-ascends, search (inner-pass, low))
 
-range-inner-child-at-requires : (t : ℕ) → In-range-inner t range-inner-lts.Need-child-at-requires
-range-inner-child-at-requires t c κs = search needs
-
-range-inner-range-node-requires : (t : ℕ) → In-range-inner t range-inner-lts.Need-range-node-requires
-range-inner-range-node-requires t c κs =
-    let at-q = c .before .before .before in
-    let got = at-q .before .before in
-    let turn = got .before .before .before in
-    let head = turn .before in
-    let start = head .before .before .before .before in
+inner-range-node-requires : (t : ℕ) → In-inner t inner-lts.Need-range-node-requires
+inner-range-node-requires t c κs =
+    let child : In-inner t inner-lts.After-q = search in
+    let read : In-inner t inner-lts.After-child-at = search in
+    let head : In-inner t inner-lts.At-loop = search in
+    let start : In-inner t inner-lts.Start = search in
     let pre = start .pre .1 in
-    let f = child-falls layout32 standard _ _ refl (pre .0) (not-leaf layout32 _ (pre .1 .0)) (omega arith) (got .child-at .ensures) (at-q .q .given .1) in
-    let a = child-ascends layout32 _ standard _ _ _ _ (at-q .q .given .1) (got .child-at .ensures) (turn .loop-test .taken) (head .loop .inv .4) in
-    let n = child-fits layout32 _ (Included (start .args .least)) (Included (start .args .greatest)) standard _ _ _ _ (pre .0) (pre .1 .0) (head .loop .inv .5) _
-    (pre .1 .1 .1) _ _ (at-q .q .given .1) (turn .loop-test .taken) (got .child-at .ensures) in
-    (omega (arith, f .0, start .pre .0), (f .1, (a, n)))
+    let there = child .q .given .1 in
+    let field = read .child-at .ensures in
+    let falls = child-falls layout32 standard _ _ refl (pre .0) (not-leaf layout32 _ (pre .1 .0)) (omega arith) field there in
+    let ascends = child-ascends layout32 _ standard _ _ _ _ there field (search) (search) in
+    let fits = child-fits layout32 _ _ _ standard _ _ _ _ (pre .0) (pre .1 .0) (head .loop .inv .5) _ (pre .1 .1 .1) _ _ there (search) field in
+    (omega (arith, falls .0, start .pre .0), (falls .1, (ascends, fits)))
 
-range-inner-same-length : (t : ℕ) → In-range-inner t range-inner-lts.Need-same-length
-range-inner-same-length t c = let m = c .before in joined t m .0 ∙ m .before .before .before .before .before .loop .inv .2
+inner-same-length : (t : ℕ) → In-inner t inner-lts.Need-same-length
+inner-same-length t c = lengths t (c .before) .0 ∙ head t (c .before .before) .loop .inv .2
 
-range-inner-same-length-2 : (t : ℕ) → In-range-inner t range-inner-lts.Need-same-length-2
-range-inner-same-length-2 t c = let m = c .before in joined t m .1 ∙ m .before .before .before .before .before .loop .inv .3
+inner-same-length-2 : (t : ℕ) → In-inner t inner-lts.Need-same-length-2
+inner-same-length-2 t c = lengths t (c .before) .1 ∙ head t (c .before .before) .loop .inv .3
 
-range-inner-returns : (t : ℕ) → In-range-inner t range-inner-lts.Need-returns
-range-inner-returns t c =
-    let m = c .before in
-    let j = joined t m .2 in
-    let past = slot-past layout32 _ _ _ _ (m .before .before .before .u64-at .ensures) _ (c .if2 .taken) in
-    search (inner-stop, j, past)
+inner-returns : (t : ℕ) → In-inner t inner-lts.Need-returns
+inner-returns t c =
+    let read : In-inner t inner-lts.After-u64-at = search in
+    let past = slot-past layout32 _ _ _ _ (read .u64-at .ensures) _ (c .if2 .taken) in
+    search (inner-stop, joined t (c .before), past)
 
-range-inner-range-slot-requires : (t : ℕ) → In-range-inner t range-inner-lts.Need-range-slot-requires
-range-inner-range-slot-requires t c κs =
-    let past = c .before .before in
-    let m = past .before in
-    let turn = m .before .before .before .before in
-    let head = turn .before in
-    let start = head .before .before .before .before in
-    let pre = start .pre .1 in
-    let n = slot-fits layout32 _ (Included (start .args .least)) (Included (start .args .greatest)) standard _ _ _ _ (pre .0) (pre .1 .0) (head .loop .inv .5) _
-    (pre .1 .1 .1) _ (turn .loop-test .taken) (hit t past) (joined t m .2) in
-    (omega (arith, head .loop .inv .1), omega (arith, turn .loop-test .taken), n)
+inner-range-slot-requires : (t : ℕ) → In-inner t inner-lts.Need-range-slot-requires
+inner-range-slot-requires t c κs =
+    let past : In-inner t inner-lts.Else2 = search in
+    let met = past .before in
+    let pre = start t (met .before) .pre .1 in
+    let sum = head t (met .before) .loop .inv .5 in
+    let fits = slot-fits layout32 _ _ _ standard _ _ _ _ (pre .0) (pre .1 .0) sum _ (pre .1 .1 .1) _ (search) (hit t past) (joined t met) in
+    (search needs, search needs, fits)
 
-range-inner-loop-again-2 : (t : ℕ) → In-range-inner t range-inner-lts.Need-loop-again-2
-range-inner-loop-again-2 t c =
-    let call = c .before .before .before .before in
-    let past = call .before .before .before in
-    let m = past .before in
-    let turn = m .before .before .before .before in
-    let head = turn .before in
-    let j = joined t m in (
-      omega (arith, turn .loop-test .taken),
-      head .loop .inv .1,
-      call .range-slot .kept .1 .1 .1 .0 ∙ j .0 ∙ head .loop .inv .2,
-      call .range-slot .kept .1 .1 .1 .1 .0 ∙ j .1 ∙ head .loop .inv .3,
-      rest-ascends layout32 _ standard _ _ (turn .loop-test .taken) (head .loop .inv .4),
-      inner-take layout32 _ _ _ standard _ _ _ _ _ _ (turn .loop-test .taken) (j .2) (hit t past) (call .range-slot .ensures) (head .loop .inv .5),
+inner-loop-again-2 : (t : ℕ) → In-inner t inner-lts.Need-loop-again-2
+inner-loop-again-2 t c =
+    let noted : In-inner t inner-lts.After-range-slot = search in
+    let past : In-inner t inner-lts.Else2 = search in
+    let met = past .before in
+    let l = lengths t met in (
+      search needs,
+      search needs,
+      cc,
+      cc,
+      search rest-ascends,
+      inner-take layout32 _ _ _ standard _ _ _ _ _ _ (search) (joined t met) (hit t past) (noted .range-slot .ensures) (head t (met .before) .loop .inv .5),
     )
 
-range-inner-child-at-requires-2 : (t : ℕ) → In-range-inner t range-inner-lts.Need-child-at-requires-2
-range-inner-child-at-requires-2 t c κs = search needs
+inner-returns-2 : (t : ℕ) → In-inner t inner-lts.Need-returns-2
+inner-returns-2 t c = search (inner-end, child-skipped)
 
-range-inner-returns-2 : (t : ℕ) → In-range-inner t range-inner-lts.Need-returns-2
-range-inner-returns-2 t c = search (inner-end, child-skipped)
-
-range-inner-range-node-requires-2 : (t : ℕ) → In-range-inner t range-inner-lts.Need-range-node-requires-2
-range-inner-range-node-requires-2 t c κs =
-    let at-q = c .before .before .before in
-    let got = at-q .before .before in
-    let end = got .before in
-    let head = end .before in
-    let start = head .before .before .before .before in
+inner-range-node-requires-2 : (t : ℕ) → In-inner t inner-lts.Need-range-node-requires-2
+inner-range-node-requires-2 t c κs =
+    let child : In-inner t inner-lts.After-q2 = search in
+    let read : In-inner t inner-lts.After-child-at2 = search in
+    let end : In-inner t inner-lts.After-loop = search in
+    let head : In-inner t inner-lts.At-loop = search in
+    let start : In-inner t inner-lts.Start = search in
     let pre = start .pre .1 in
-    let f = child-falls layout32 standard _ 5 refl (pre .0) (not-leaf layout32 _ (pre .1 .0)) (omega arith) (got .child-at2 .ensures) (at-q .q2 .given .1) in
-    let a = last-ascends layout32 _ standard _ _ _ _ (at-q .q2 .given .1) (got .child-at2 .ensures) (end .loop-test .left) (head .loop .inv .0) (head .loop .inv .4) in
-    let n = last-fits layout32 _ (Included (start .args .least)) (Included (start .args .greatest)) standard _ _ _ _ (pre .0) (pre .1 .0) (head .loop .inv .5) _
-    (pre .1 .1 .1) _ _ (at-q .q2 .given .1) (end .loop-test .left) (head .loop .inv .0) (got .child-at2 .ensures) in
-    (omega (arith, f .0, start .pre .0), (f .1, (a, n)))
+    let there = child .q2 .given .1 in
+    let field = read .child-at2 .ensures in
+    let falls = child-falls layout32 standard _ 5 refl (pre .0) (not-leaf layout32 _ (pre .1 .0)) (omega arith) field there in
+    let ascends = last-ascends layout32 _ standard _ _ _ _ there field (end .loop-test .left) (search) (search) in
+    let fits =
+    last-fits layout32 _ _ _ standard _ _ _ _ (pre .0) (pre .1 .0) (head .loop .inv .5) _ (pre .1 .1 .1) _ _ there (end .loop-test .left) (search) field in
+    (omega (arith, falls .0, start .pre .0), (falls .1, (ascends, fits)))
 
-range-inner-returns-3 : (t : ℕ) → In-range-inner t range-inner-lts.Need-returns-3
-range-inner-returns-3 t c = search (inner-end, child-run)
+inner-returns-3 : (t : ℕ) → In-inner t inner-lts.Need-returns-3
+inner-returns-3 t c = search (inner-end, child-run)
 
-abbrev range-node-calls : ℕ → range-node-lts.Claims
-range-node-calls t = (range-leaf-reads.Asked, range-leaf-reads.Learnt, range-inner-below t, range-inner.Post)
+abbrev node-calls : ℕ → node-lts.Claims
+node-calls t = (range-leaf.Asked, range-leaf.Learnt, inner-below t, range-inner.Post)
 
--- A need of `range-node`.
-abbrev In-range-node : ℕ → (range-node-lts.Claims → In 3 range-node-kinds.ps → Out 3 range-node-kinds.ps range-node-kinds.r → Type 0) → Type 0
-In-range-node t need = need (range-node-calls t) (range-node-at t) range-node.Post
+-- A place or a need of `range_node`.
+abbrev In-node : ℕ → (node-lts.Claims → In 3 node-kinds.ps → Out 3 node-kinds.ps node-kinds.r → Type 0) → Type 0
+In-node t place = place (node-calls t) (node-at t) range-node.Post
 
-range-node-shared-slice-read-if1 : (t : ℕ) → In-range-node t range-node-lts.Need-shared-slice-read-if1
-range-node-shared-slice-read-if1 t c = omega (arith, node-room layout32 standard _ (c .before .before .before .before .pre .1 .0))
+node-shared-slice-read-if1 : (t : ℕ) → In-node t node-lts.Need-shared-slice-read-if1
+node-shared-slice-read-if1 t c = let start : In-node t node-lts.Start = search in omega (arith, node-room layout32 standard _ (start .pre .1 .0))
 
-range-node-range-leaf-requires : (t : ℕ) → In-range-node t range-node-lts.Need-range-leaf-requires
-range-node-range-leaf-requires t c κs = (search as-leaf, (search leaf-ascends, search whole-leaf-fits))
+node-range-leaf-requires : (t : ℕ) → In-node t node-lts.Need-range-leaf-requires
+node-range-leaf-requires t c κs = (search as-leaf, (search leaf-ascends, search whole-leaf-fits))
 
-range-node-returns : (t : ℕ) → In-range-node t range-node-lts.Need-returns
-range-node-returns t c = search leaf-run
+node-returns : (t : ℕ) → In-node t node-lts.Need-returns
+node-returns t c = search leaf-run
 
-range-node-range-inner-requires : (t : ℕ) → In-range-node t range-node-lts.Need-range-inner-requires
-range-node-range-inner-requires t c κs = (omega arith, (search, (search as-inner, (search, search))))
-
-range-node-returns-2 : (t : ℕ) → In-range-node t range-node-lts.Need-returns-2
-range-node-returns-2 t c = search needs
+node-range-inner-requires : (t : ℕ) → In-node t node-lts.Need-range-inner-requires
+node-range-inner-requires t c κs = (omega arith, (search, (search as-inner, (search, search))))
 
 pub +range-inner+range-node-spec : {M : Type 1} → statement M
-+range-inner+range-node-spec = close μ-range-inner μ-range-node (λ t. range-inner-lts.spec (range-inner-calls t) (range-inner-at t) range-inner.Post
-    range-inner-Inv-loop
-    range-inner-μ-loop
-    (range-inner-loop-holds t)
++range-inner+range-node-spec = close μ-inner μ-node (λ t. inner-lts.spec (inner-calls t) (inner-at t) range-inner.Post
+    Inv-loop
+    μ-loop
+    (inner-loop-holds t)
     (search needs)
     (search needs)
     (search needs)
     (search needs)
     (search needs)
     (search needs)
-    (range-inner-loop-again t)
-    (range-inner-child-at-requires t)
+    (inner-loop-again t)
+    (λ c κs. search needs)
     (search needs)
-    (range-inner-range-node-requires t)
+    (inner-range-node-requires t)
     (search needs)
-    (range-inner-same-length t)
-    (range-inner-same-length-2 t)
-    (range-inner-returns t)
-    (range-inner-range-slot-requires t)
-    (search needs)
-    (search needs)
-    (range-inner-loop-again-2 t)
-    (range-inner-child-at-requires-2 t)
+    (inner-same-length t)
+    (inner-same-length-2 t)
+    (inner-returns t)
+    (inner-range-slot-requires t)
     (search needs)
     (search needs)
+    (inner-loop-again-2 t)
+    (λ c κs. search needs)
     (search needs)
     (search needs)
-    (range-inner-returns-2 t)
-    (range-inner-range-node-requires-2 t)
     (search needs)
     (search needs)
-    (range-inner-returns-3 t))
-    λ t. range-node-lts.spec (range-node-calls t) (range-node-at t) range-node.Post
-    (range-node-shared-slice-read-if1 t)
-    (range-node-range-leaf-requires t)
+    (inner-returns-2 t)
+    (inner-range-node-requires-2 t)
     (search needs)
     (search needs)
-    (range-node-returns t)
-    (range-node-range-inner-requires t)
+    (inner-returns-3 t))
+    λ t. node-lts.spec (node-calls t) (node-at t) range-node.Post
+    (node-shared-slice-read-if1 t)
+    (node-range-leaf-requires t)
     (search needs)
     (search needs)
-    (range-node-returns-2 t)
+    (node-returns t)
+    (node-range-inner-requires t)
+    (search needs)
+    (search needs)
+    (λ c. search needs)

@@ -26,33 +26,41 @@ Inv-loop archive pos least greatest keys₀ values₀ p n done₀ i₀ keys valu
 abbrev μ-loop : tie.MeasureT-loop
 μ-loop archive pos least greatest keys₀ values₀ p n done₀ i₀ keys values done i = n - i
 
+abbrev start : tie.At-loop Inv-loop μ-loop → tie.Start Inv-loop μ-loop
+start head = search
+
 -- Past both tests the slot matches.
 hit : (c : tie.Else2 Inv-loop μ-loop)
-    → let a = c .before .before .before .before .before .before .before .before .before .args in
-    matches (Included (a .least)) (Included (a .greatest)) (slot layout32 (a .archive .now) (a .pos .0) (c .before .before .before .before .loop .i)) ≡ true
-hit c = slot-matches layout32 _ _ _ _ (c .before .before .u64-at .ensures) _ _ (omega (arith, c .before .if1 .left)) (c .if2 .left)
+    → let head : tie.At-loop Inv-loop μ-loop = search in
+    let a = start head .args in
+    matches (Included (a .least)) (Included (a .greatest)) (slot layout32 (a .archive .now) (a .pos .0) (head .loop .i)) ≡ true
+hit c = slot-matches layout32 _ _ _ _ (c .before .before .u64-at .ensures) _ _ (omega arith) (search)
 
 loop-holds : tie.Need-loop-holds Inv-loop μ-loop
 loop-holds c = (search needs, search needs, search needs, search slots-ascend, search needs)
 
 loop-again : tie.Need-loop-again Inv-loop μ-loop
-loop-again c = (search needs, search needs, search needs, search slots-rest, search (leaf-pass, slot-low layout32 _ _ _ _ (c .before .u64-at .ensures) _ (c .if1 .taken)))
+loop-again c =
+    let low = slot-low layout32 _ _ _ _ (c .before .u64-at .ensures) _ (c .if1 .taken) in
+    (search needs, search needs, search needs, search slots-rest, search (leaf-pass, low))
 
 returns : tie.Need-returns Inv-loop μ-loop
 returns c = search (leaf-stop, slot-past layout32 _ _ _ _ (c .before .before .u64-at .ensures) _ (c .if2 .taken))
 
 range-slot-requires : tie.Need-range-slot-requires Inv-loop μ-loop
 range-slot-requires c κs =
-    let past = c .before .before in
-    let turn = past .before .before .before in
-    let head = turn .before in
-    let read = head .before in
-    let n = leaf-fits layout32 _ _ _ _ _ _ _ (turn .loop-test .taken) (hit past) _ _ _ (read .u32-at .ensures) (head .loop .inv .4)
-    (read .before .before .before .before .pre .1 .1) in
-    (search needs, search needs, n)
+    let past : tie.Else2 Inv-loop μ-loop = search in
+    let head : tie.At-loop Inv-loop μ-loop = search in
+    let read : tie.After-u32-at Inv-loop μ-loop = search in (
+      search needs,
+      search needs,
+      leaf-fits layout32 _ _ _ _ _ _ _ (search) (hit past) _ _ _ (read .u32-at .ensures) (head .loop .inv .4) (start head .pre .1 .1),
+    )
 
 loop-again-2 : tie.Need-loop-again-2 Inv-loop μ-loop
-loop-again-2 c = (search needs, search needs, search needs, search slots-rest, search (leaf-take, hit (c .before .before .before .before .before .before .before)))
+loop-again-2 c =
+    let past : tie.Else2 Inv-loop μ-loop = search in
+    (search needs, search needs, search needs, search slots-rest, search (leaf-take, hit past))
 
 returns-2 : tie.Need-returns-2 Inv-loop μ-loop
 returns-2 c = search leaf-done

@@ -9,7 +9,7 @@ use Rattle.ranges.proofs.iter.range_root.Statement.{statement}
 use Rattle.ranges.proofs.iter.range_root.Tie as tie
 
 shared-slice-read-if1 : tie.Need-shared-slice-read-if1
-shared-slice-read-if1 c = omega (arith, node-room layout32 standard _ (c .before .before .before .before .pre .0))
+shared-slice-read-if1 c = let start : tie.Start = search in omega (arith, node-room layout32 standard _ (start .pre .0))
 
 range-leaf-requires : tie.Need-range-leaf-requires
 range-leaf-requires c κs = (search as-leaf, (search leaf-ascends, search whole-leaf-fits))
@@ -19,9 +19,6 @@ returns c = search leaf-run
 
 range-inner-requires : tie.Need-range-inner-requires
 range-inner-requires c κs = (search, (search as-inner, (search, search)))
-
-returns-2 : tie.Need-returns-2
-returns-2 c = search needs
 
 pub range-root-spec : {M : Type 1} → statement M
 range-root-spec =
@@ -35,4 +32,4 @@ range-root-spec =
     range-inner-requires
     (search needs)
     (search needs)
-    returns-2)
+    (λ c. search needs))
