@@ -1,10 +1,10 @@
 -- `certification::certify_inner` and `certification::certify_node`, which call each other, meet their contracts: the position falls where
 -- `certify_node` is called, and stays where `certify_inner` is. Assumes nothing.
 use Prim.Native.Nat.{ℕ, _+_, _-_, _≤_, _<_}
-use mathlib.Core.Path.{_≡_, refl}
+use mathlib.Core.Path.{_≡_, refl, sym}
 use mathlib.Core.List.{[]}
-use mathlib.Core.Bool.{false}
-use mathlib.Core.Logic.{⊎-elim}
+use mathlib.Core.Bool.{Bool, false}
+use mathlib.Core.Logic.{⊎-elim, ⊎-map}
 use native.Mathlib.Omega.{arith}
 use lib.ListN.{length, getD}
 use Rattle.format.specs.Layout.{layout32, leafSize, standard, nested}
@@ -13,10 +13,12 @@ use Rattle.format.specs.Entries.{listAt}
 use Rattle.format.specs.Certify.{hollowAt}
 use Rattle.format.specs.Laws.Read.Children.{onChild, childAt}
 use Rattle.format.specs.Laws.Read.Node.{as-leaf, as-inner, node-room, child-falls}
-use Rattle.format.specs.Laws.Read.Written.{runs}
+use Rattle.format.specs.Laws.Read.Written.{runs, runs-none}
 use Rattle.certification.specs.Survey.{step, raised}
-use Rattle.btree.proofs.Runs.{child-run, child-skipped, leaf-run}
-use Rattle.certification.proofs.Surveys.{byte-inner, left, left-step, left-last, left-done, child-flagged, child-unflagged, anyLeft, leaf-flag, flag-step, flag-done}
+use Rattle.btree.specs.NextChild.{next-child}
+use Rattle.btree.proofs.Runs.{leaf-run}
+use Rattle.certification.proofs.Surveys.{byte-inner, left, left-step, left-last, left-done}
+use Rattle.certification.proofs.Surveys.{anyLeft, raised-not, leaf-flag, flag-step, flag-done}
 use borrow.Author.Needs.{needs}
 use borrow.Fn.Kinds.{In, Out}
 use borrow.Fn.PlainCycle.{Measures, is, falls, and}
@@ -64,71 +66,73 @@ abbrev μ-loop : inner-lts.MeasureT-loop
 μ-loop archive pos known hollow₀ order₀ i₀ hollow order i = 6 - i
 
 abbrev inner-calls : ℕ → inner-lts.Claims
-inner-calls t = (note-hollow.Asked, note-hollow.Learnt, child-at.Asked, child-at.Learnt, node-below t, certify-node.Post, note-slot.Asked, note-slot.Learnt)
+inner-calls t =
+    (note-hollow.Asked, note-hollow.Learnt, child-at.Asked, child-at.Learnt, node-below t, certify-node.Post, note-slot.Asked, note-slot.Learnt)
 
-abbrev In-inner : ℕ → (inner-lts.Claims → In 1 inner-kinds.ps → Out 1 inner-kinds.ps inner-kinds.r → inner-lts.InvT-loop → inner-lts.MeasureT-loop → Type 0) → Type 0
-In-inner t need = need (inner-calls t) (inner-at t) certify-inner.Post Inv-loop μ-loop
+-- A place or a need of `certify_inner`.
+abbrev In-inner : ℕ
+    → (inner-lts.Claims → In 1 inner-kinds.ps → Out 1 inner-kinds.ps inner-kinds.r → inner-lts.InvT-loop → inner-lts.MeasureT-loop → Type 0)
+    → Type 0
+In-inner t place = place (inner-calls t) (inner-at t) certify-inner.Post Inv-loop μ-loop
+
+abbrev start : (t : ℕ) → In-inner t inner-lts.At-loop → In-inner t inner-lts.Start
+start t head = search
 
 -- The node's first byte is not a leaf's.
-not-leaf : (t : ℕ) (c : In-inner t inner-lts.At-loop) →
-    let a = c .before .before .before .args in getD (a .archive .now) (a .pos .0) 0 ≡ 0 → ⊥
-not-leaf t c = byte-inner layout32 _ _ (c .before .before .before .pre .1 .1)
+not-leaf : (t : ℕ) (head : In-inner t inner-lts.At-loop) → let a = start t head .args in getD (a .archive .now) (a .pos .0) 0 ≡ 0 → ⊥
+not-leaf t head = byte-inner layout32 _ _ (start t head .pre .1 .1)
 
 -- Where the arms of the child's test meet: the nodes from the child on are passed, or there is no child.
-joined : (t : ℕ) (c : In-inner t inner-lts.At-match-came) →
-    let o = c .before .before .before .loop in
-    let a = c .before .before .before .before .before .before .args in
-    let f = childAt layout32 (a .archive .now) (child layout32 (a .pos .0) (o .i)) in
-    (c .match .order ≡ runs step (onChild [] (listAt layout32 (a .archive .now) (nested standard)) f) (o .order))
-    × (c .match .hollow ≡ raised (o .hollow) (onChild false (hollowAt layout32 (a .archive .now) (nested standard)) f))
-joined t c =
-    let o = c .before .before .before .loop in
-    let any = hollowAt layout32 (c .before .before .before .before .before .before .args .archive .now) (nested standard) in
-    ⊎-elim
-    (λ w. (
-      rw (w .6) (child-run _ _ _ _ _ _ _ _ _ _ (c .before .child-at .ensures) (w .1 .given .1) (w .3 .ensures .0)),
-      rw (w .5) (child-flagged layout32 _ any _ _ _ (o .hollow) (c .before .child-at .ensures) _ _ (w .1 .given .1) (w .3 .ensures .1)),
-    ))
-    (λ w. (
-      rw (w .3) (child-skipped _ _ _ _ _ _ _ _ (c .before .child-at .ensures) (w .1 .given .1)),
-      rw (w .2) (child-unflagged layout32 _ any _ _ _ (o .hollow) (c .before .child-at .ensures) (w .1 .given .1)),
-    ))
-    (c .match .came)
+module _ (t : ℕ) (c : In-inner t inner-lts.At-match-came) where
+  abbrev head : In-inner t inner-lts.At-loop
+  head = search
+
+  joined : let a = start t head .args in
+      let next = childAt layout32 (a .archive .now) (child layout32 (a .pos .0) (head .loop .i)) in
+      c .match .order ≡ runs step (onChild [] (listAt layout32 (a .archive .now) (nested standard)) next) (head .loop .order)
+  joined =
+      next-child layout32 _ (runs step) [] (runs-none step) _ _ _ _ _ _ (c .before .child-at .ensures)
+      (⊎-map (λ w. (_, w .1 .given .1, cc)) (λ w. (w .1 .given .1, cc)) (c .match .came))
+
+  flagged : let a = start t head .args in
+      let next = childAt layout32 (a .archive .now) (child layout32 (a .pos .0) (head .loop .i)) in
+      c .match .hollow ≡ raised (head .loop .hollow) (onChild false (hollowAt layout32 (a .archive .now) (nested standard)) next)
+  flagged =
+      next-child layout32 _ (λ (b : Bool) (h : ℕ). raised h b) false (λ h. sym (raised-not h)) _ _ _ _ _ _ (c .before .child-at .ensures)
+      (⊎-map (λ w. (_, w .1 .given .1, cc)) (λ w. (w .1 .given .1, cc)) (c .match .came))
 
 -- Where the arms of the slot's test meet: one slot more, or none is left.
 passed : (t : ℕ) (c : In-inner t inner-lts.Joined1) →
-    let o = c .before .before .before .before .loop in
-    let a = c .before .before .before .before .before .before .before .args in
+    let head = head t (c .before) in
+    let a = start t head .args in
     let list = left layout32 (a .archive .now) (listAt layout32 (a .archive .now) (nested standard)) (a .pos .0) 5 in
-    runs step (list (o .i + 1)) (c .if1 .order) ≡ runs step (list 0) (a .start)
+    runs step (list (head .loop .i + 1)) (c .if1 .order) ≡ runs step (list 0) (a .start)
 passed t c =
-    let k = c .before .before .before .before in
-    let j = joined t (c .before) .0 in
-    let q = k .loop .inv .2 in
-    let l : k .loop .i ≤ 5 = omega arith in
+    let sum = head t (c .before) .loop .inv .2 in
     ⊎-elim
-    (λ w. rw (w .2) (left-step layout32 _ _ _ 5 _ _ _ _ j q (w .0 .taken) _ (w .1 .ensures)))
-    (λ w. rw (w .1) (left-last layout32 _ _ _ 5 _ _ _ _ j q l (w .0 .left)))
+    (λ w. rw (w .2) (left-step layout32 _ _ _ 5 _ _ _ _ (joined t (c .before)) sum (w .0 .taken) _ (w .1 .ensures)))
+    (λ w. rw (w .1) (left-last layout32 _ _ _ 5 _ _ _ _ (joined t (c .before)) sum (omega arith) (w .0 .left)))
     (c .if1 .came)
 
 inner-loop-holds : (t : ℕ) → In-inner t inner-lts.Need-loop-holds
 inner-loop-holds t c = search (node-room, needs)
 
 inner-child-at-requires : (t : ℕ) → In-inner t inner-lts.Need-child-at-requires
-inner-child-at-requires t c κs = (as-inner layout32 standard _ (c .before .before .before .before .pre .1 .0) (not-leaf t (c .before)), omega arith)
+inner-child-at-requires t c κs = (as-inner layout32 standard _ (start t (c .before) .pre .1 .0) (not-leaf t (c .before)), omega arith)
 
 inner-certify-node-requires : (t : ℕ) → In-inner t inner-lts.Need-certify-node-requires
 inner-certify-node-requires t c κs =
-    let k = c .before .before .before .before .before in
-    let f =
-    child-falls layout32 standard _ (k .loop .i) refl (k .before .before .before .pre .1 .0) (not-leaf t k) (omega arith) (c .before .before .before .child-at .ensures)
-    (c .before .q .given .1) in
-    (omega (arith, f .0), f .1)
+    let there : In-inner t inner-lts.After-q = search in
+    let read : In-inner t inner-lts.After-child-at = search in
+    let head : In-inner t inner-lts.At-loop = search in
+    let falls =
+    child-falls layout32 standard _ _ refl (start t head .pre .1 .0) (not-leaf t head) (omega arith) (read .child-at .ensures) (there .q .given .1) in
+    (omega (arith, falls .0), falls .1)
 
 inner-loop-again : (t : ℕ) → In-inner t inner-lts.Need-loop-again
 inner-loop-again t c =
-    let l : c .before .before .before .before .loop .i ≤ 5 = omega arith in
-    (omega arith, search needs, passed t c, search (flag-step, l, joined t (c .before) .1))
+    let l : head t (c .before) .loop .i ≤ 5 = omega arith in
+    (search needs, search needs, passed t c, search (flag-step, l, flagged t (c .before)))
 
 inner-returns : (t : ℕ) → In-inner t inner-lts.Need-returns
 inner-returns t c = let n = not-leaf t (c .before) in (search (left-done, n), search (flag-done, n))
@@ -138,11 +142,12 @@ inner-returns t c = let n = not-leaf t (c .before) in (search (left-done, n), se
 abbrev node-calls : ℕ → node-lts.Claims
 node-calls t = (note-hollow.Asked, note-hollow.Learnt, note-leaf.Asked, note-leaf.Learnt, inner-below t, certify-inner.Post)
 
+-- A place or a need of `certify_node`.
 abbrev In-node : ℕ → (node-lts.Claims → In 1 node-kinds.ps → Out 1 node-kinds.ps node-kinds.r → Type 0) → Type 0
-In-node t need = need (node-calls t) (node-at t) certify-node.Post
+In-node t place = place (node-calls t) (node-at t) certify-node.Post
 
 node-shared-slice-read-if1 : (t : ℕ) → In-node t node-lts.Need-shared-slice-read-if1
-node-shared-slice-read-if1 t c = omega (arith, node-room layout32 _ _ (c .before .before .pre .1))
+node-shared-slice-read-if1 t c = let start : In-node t node-lts.Start = search in omega (arith, node-room layout32 _ _ (start .pre .1))
 
 node-note-leaf-requires : (t : ℕ) → In-node t node-lts.Need-note-leaf-requires
 node-note-leaf-requires t c κs = search as-leaf
@@ -152,8 +157,8 @@ node-returns t c = (search leaf-run, search leaf-flag)
 
 node-certify-inner-requires : (t : ℕ) → In-node t node-lts.Need-certify-inner-requires
 node-certify-inner-requires t c κs =
-    let v = c .before .before .before .pre .1 in
-    (omega arith, (v, as-inner layout32 standard _ v (c .if1 .left) .is))
+    let start : In-node t node-lts.Start = search in
+    (omega arith, (start .pre .1, as-inner layout32 standard _ (start .pre .1) (c .if1 .left) .is))
 
 pub +certify-inner+certify-node-spec : {M : Type 1} → statement M
 +certify-inner+certify-node-spec =

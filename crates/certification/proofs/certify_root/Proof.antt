@@ -9,7 +9,7 @@ use Rattle.certification.proofs.certify_root.Statement.{statement}
 use Rattle.certification.proofs.certify_root.Tie as tie
 
 shared-slice-read-if1 : tie.Need-shared-slice-read-if1
-shared-slice-read-if1 c = omega (arith, node-room layout32 _ _ (c .before .before .pre))
+shared-slice-read-if1 c = let start : tie.Start = search in omega (arith, node-room layout32 _ _ (start .pre))
 
 note-leaf-requires : tie.Need-note-leaf-requires
 note-leaf-requires c κs = search as-leaf
@@ -18,9 +18,7 @@ returns : tie.Need-returns
 returns c = (search leaf-run, search leaf-flag)
 
 certify-inner-requires : tie.Need-certify-inner-requires
-certify-inner-requires c κs =
-    let v = c .before .before .before .pre in
-    (v, as-inner layout32 standard _ v (c .if1 .left) .is)
+certify-inner-requires c κs = let start : tie.Start = search in (start .pre, as-inner layout32 standard _ (start .pre) (c .if1 .left) .is)
 
 pub certify-root-spec : {M : Type 1} → statement M
 certify-root-spec =

@@ -7,13 +7,13 @@ use Rattle.certification.proofs.note_hollow.Statement.{statement}
 use Rattle.certification.proofs.note_hollow.Tie as tie
 
 shared-slice-read-if1 : tie.Need-shared-slice-read-if1
-shared-slice-read-if1 c = omega (arith, node-room layout32 _ _ (c .before .before .pre))
+shared-slice-read-if1 c = let start : tie.Start = search in omega (arith, node-room layout32 _ _ (start .pre))
 
 add-u32-at : tie.Need-add-u32-at
-add-u32-at c = omega (arith, node-room layout32 _ _ (c .before .before .before .pre))
+add-u32-at c = let start : tie.Start = search in omega (arith, node-room layout32 _ _ (start .pre))
 
 u32-at-requires : tie.Need-u32-at-requires
-u32-at-requires c κs = omega (arith, node-room layout32 _ _ (c .before .before .before .pre))
+u32-at-requires c κs = let start : tie.Start = search in omega (arith, node-room layout32 _ _ (start .pre))
 
 returns : tie.Need-returns
 returns c = search own-empty
@@ -22,10 +22,10 @@ returns-2 : tie.Need-returns-2
 returns-2 c = search own-filled
 
 add-t12 : tie.Need-add-t12
-add-t12 c = omega (arith, node-room layout32 _ _ (c .before .before .before .pre))
+add-t12 c = let start : tie.Start = search in omega (arith, node-room layout32 _ _ (start .pre))
 
 is-invalid-at-requires : tie.Need-is-invalid-at-requires
-is-invalid-at-requires c κs = omega (arith, node-room layout32 _ _ (c .before .before .before .pre))
+is-invalid-at-requires c κs = let start : tie.Start = search in omega (arith, node-room layout32 _ _ (start .pre))
 
 returns-3 : tie.Need-returns-3
 returns-3 c = search own-absent

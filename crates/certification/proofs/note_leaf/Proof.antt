@@ -19,16 +19,11 @@ Inv-loop archive pos p n order₀ i₀ order i =
 abbrev μ-loop : tie.MeasureT-loop
 μ-loop archive pos p n order₀ i₀ order i = n - i
 
-loop-holds : tie.Need-loop-holds Inv-loop μ-loop
-loop-holds c = search needs
-
 loop-again : tie.Need-loop-again Inv-loop μ-loop
 loop-again c = (search needs, search needs, search needs, search leaf-step)
 
 returns : tie.Need-returns Inv-loop μ-loop
-returns c =
-    let e = sym (c .before .if1 .taken) ∙ c .before .before .u32-at .ensures in
-    rw (← e) (c .note-full .ensures)
+returns c = rw (← sym (c .before .if1 .taken) ∙ c .before .before .u32-at .ensures) (c .note-full .ensures)
 
 returns-2 : tie.Need-returns-2 Inv-loop μ-loop
 returns-2 c = search leaf-done
@@ -44,7 +39,7 @@ note-leaf-spec =
     (search needs)
     (search needs)
     returns
-    loop-holds
+    (λ c. search needs)
     (search needs)
     (search needs)
     (search needs)
