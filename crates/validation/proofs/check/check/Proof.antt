@@ -1,9 +1,7 @@
 -- `validation::check::check` meets its contract. Assumes nothing.
-use mathlib.Core.Path.{refl, sym, ap, _∙_}
+use mathlib.Core.Path.{refl, ap, _∙_}
 use native.Mathlib.Omega.{arith}
 use Rattle.format.specs.Layout.{layout32, standard}
-use Rattle.format.specs.Refusal.{checkOf}
-use Rattle.validation.specs.Answers.{refusedPtr, refusedNode}
 use Rattle.validation.specs.declared.archive.SubtreeRange.{SubtreeRange}
 use Rattle.validation.proofs.Nodes.{archive-long, archive-short, archive-refused, archive-opened}
 use borrow.Author.Needs.{needs}
@@ -12,18 +10,19 @@ use Rattle.validation.proofs.check.check.Tie as tie
 
 returns : tie.Need-returns
 unfolding standard
-returns c = sym (archive-long layout32 standard _ (omega arith))
+returns c = archive-long layout32 standard _ (omega arith)
 
 returns-2 : tie.Need-returns-2
 unfolding standard
-returns-2 c = sym (archive-short layout32 standard _ (omega arith) (omega arith))
+returns-2 c = archive-short layout32 standard _ (omega arith) (omega arith)
 
 returns-3 : tie.Need-returns-3
 unfolding standard
 returns-3 c =
-    let told = c .before .before .enum-told2 .given .1 in
-    ap checkOf (c .refused-node .ensures ∙ ap refusedNode (c .before .refused-ptr .ensures ∙ ap refusedPtr told))
-    ∙ sym (archive-refused layout32 standard _ (omega arith) (omega arith) _ (sym (c .before .before .before .before .in-subtree .ensures) ∙ told))
+    let told : tie.After-enum-told2 = search in
+    let asked : tie.After-in-subtree = search in
+    archive-refused layout32 standard _ (omega arith) (omega arith) (asked .in-subtree .ensures) (told .enum-told2 .given .1)
+    (c .before .refused-ptr .ensures) (c .refused-node .ensures)
 
 verify-requires : tie.Need-verify-requires
 unfolding standard
@@ -34,8 +33,8 @@ verify-requires c κs =
 returns-4 : tie.Need-returns-4
 unfolding standard
 returns-4 c =
-    let k = c .before .before in
-    c .verify .ensures ∙ sym (archive-opened layout32 standard _ (omega arith) (omega arith) (sym (k .before .before .in-subtree .ensures) ∙ k .enum-told .given .1))
+    let asked : tie.After-in-subtree = search in
+    c .verify .ensures ∙ archive-opened layout32 standard _ (omega arith) (omega arith) (asked .in-subtree .ensures) (search)
 
 pub check-spec : {M : Type 1} → statement M
 check-spec =

@@ -10,7 +10,7 @@ use Rattle.format.specs.RelPtr.{target}
 use Rattle.format.specs.Check.{checkNode}
 use Rattle.fields.specs.Answers.{targetOf}
 use Rattle.validation.specs.Subtree.{placed}
-use Rattle.validation.specs.Answers.{refusedPtr, nodeOf, enteredLeaf, Enters}
+use Rattle.validation.specs.Answers.{nodeOf, enteredLeaf, Enters}
 use Rattle.validation.specs.declared.archive.SubtreeRange.{SubtreeRange}
 use Rattle.validation.specs.declared.archive.PtrAnswer.the-variants.{Inside}
 use Rattle.validation.specs.declared.check.NodeAnswer.{NodeAnswer}
@@ -28,27 +28,30 @@ enters-leaf s range depth field (Entries n end) e = e
 enters-leaf s range depth field (Refused r) e = e
 
 -- Where the field leads.
-leads : (c : tie.After-known-told) →
-    let a = c .before .before .before .before .before .args in
-    target layout32 (a .archive .now) (a .field .0) ≡ RelPtr.at (c .before .at .given .0 .0 .0)
-leads c = sym (c .before .before .before .rel-ptr-at .ensures) ∙ ap targetOf (c .before .at .given .1)
+leads : (c : tie.After-at)
+    → let start : tie.Start = search in
+    target layout32 (start .args .archive .now) (start .args .field .0) ≡ RelPtr.at (c .at .given .0 .0 .0)
+leads c = let read : tie.After-rel-ptr-at = search in sym (read .rel-ptr-at .ensures) ∙ ap targetOf (c .at .given .1)
 
 -- The first bytes of the node stand in their place.
-inside : (c : tie.After-enum-told2) →
-    let k = c .before .before .before in
-    let a = k .before .before .before .before .before .args in
-    placed (a .range .start .0) (a .range .end .0) (k .before .at .given .0 .0 .0) (headSize layout32) nodeAlign ≡ Inside
-inside c = sym (c .before .before .check-subtree-ptr .ensures) ∙ c .enum-told2 .given .1
+inside : (c : tie.After-enum-told2)
+    → let led : tie.After-at = search in
+    let start : tie.Start = search in
+    let a = start .args in
+    placed (a .range .start .0) (a .range .end .0) (led .at .given .0 .0 .0) (headSize layout32) nodeAlign ≡ Inside
+inside c = let asked : tie.After-check-subtree-ptr = search in sym (asked .check-subtree-ptr .ensures) ∙ c .enum-told2 .given .1
 
 returns : tie.Need-returns
-returns c = sym (node-below layout32 _ _ _ _ _ (sym (c .before .before .rel-ptr-at .ensures) ∙ ap targetOf (c .enum-told .given .1)))
+returns c = node-below layout32 _ _ _ _ _ (sym (c .before .before .rel-ptr-at .ensures) ∙ ap targetOf (c .enum-told .given .1))
 
 returns-2 : tie.Need-returns-2
 returns-2 c =
-    let m = c .before in
-    let told = m .before .enum-told3 .given .1 in
-    let k = m .before .before .before in
-    rw (c .entered-leaf .ensures) (enters-leaf _ _ (k .before .before .before .before .before .before .args .depth) _ (m .refused-ptr .result) (ap nodeOf (m .refused-ptr .ensures ∙ ap refusedPtr told) ∙ sym (node-refused layout32 _ _ _ _ _ _ (leads (k .before)) _ (sym (k .check-subtree-ptr .ensures) ∙ told))))
+    let refused = c .before .refused-ptr in
+    let told : tie.After-enum-told3 = search in
+    let asked : tie.After-check-subtree-ptr = search in
+    let led : tie.After-at = search in
+    let answer = node-refused layout32 _ _ _ _ _ _ (leads led) (asked .check-subtree-ptr .ensures) (told .enum-told3 .given .1) (refused .ensures) in
+    rw (c .entered-leaf .ensures) (enters-leaf _ _ _ _ (refused .result) answer)
 
 shared-slice-read-match3 : tie.Need-shared-slice-read-match3
 shared-slice-read-match3 c = omega (arith, Places.held _ _ _ _ _ (inside (c .before)))
@@ -58,19 +61,23 @@ check-leaf-node-requires c κs = (search needs, Places.held _ _ _ _ _ (inside (c
 
 returns-3 : tie.Need-returns-3
 returns-3 c =
-    let m = c .before in
-    let k = m .before .before .before in
-    rw (c .entered-leaf2 .ensures) (enters-leaf _ _ _ _ (m .check-leaf-node .result) (m .check-leaf-node .ensures ∙ sym (node-leaf layout32 _ _ _ _ _ _ (leads (k .before .before .before)) (inside k) (omega arith))))
+    let leaf = c .before .check-leaf-node in
+    let placed : tie.After-enum-told2 = search in
+    let led : tie.After-at = search in
+    rw (c .entered-leaf2 .ensures)
+    (enters-leaf _ _ _ _ (leaf .result) (leaf .ensures ∙ node-leaf layout32 _ _ _ _ _ _ (leads led) (inside placed) (omega arith)))
 
 returns-4 : tie.Need-returns-4
 returns-4 c =
-    let k = c .before .before in
-    (Places.held _ _ _ _ _ (inside k), sym (node-inner layout32 _ _ _ _ _ _ (leads (k .before .before .before)) (inside k) (omega arith)))
+    let placed : tie.After-enum-told2 = search in
+    let led : tie.After-at = search in
+    (Places.held _ _ _ _ _ (inside placed), node-inner layout32 _ _ _ _ _ _ (leads led) (inside placed) (omega arith))
 
 returns-5 : tie.Need-returns-5
 returns-5 c =
-    let k = c .before .before in
-    sym (node-other layout32 _ _ _ _ _ _ (leads (k .before .before .before)) (inside k) (omega arith) (omega arith))
+    let placed : tie.After-enum-told2 = search in
+    let led : tie.After-at = search in
+    node-other layout32 _ _ _ _ _ _ (leads led) (inside placed) (omega arith) (omega arith)
 
 pub enter-node-spec : {M : Type 1} → statement M
 enter-node-spec =
