@@ -13,10 +13,10 @@ use Rattle.format.specs.Bytes.{leAt}
 use Rattle.format.specs.Signed.{ofTwos}
 use Rattle.format.specs.RelPtr.{at, below, position, target, absent}
 use Rattle.format.specs.Node.{child}
+use Rattle.format.specs.Readable.{childAt, Down, InnerNode}
 use Rattle.format.specs.Laws.Numbers.Signed.{ofTwos-low, ofTwos-high}
 use Rattle.format.specs.Laws.Numbers.RelPtr.{leads-on, leads-back, leads-below}
-use Rattle.format.specs.Laws.Read.Children.{childAt, child-absent, child-there}
-use Rattle.format.specs.Laws.Read.Node.{Down, InnerNode}
+use Rattle.format.specs.Laws.Read.Children.{child-absent, child-there}
 
 below≢at : (q : ℕ) → below ≡ at q → ⊥
 below≢at q e = let z : _≡_ {A = ℕ} 0 1 = cc in omega arith

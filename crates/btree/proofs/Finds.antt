@@ -18,8 +18,9 @@ use Rattle.format.specs.Layout.{Layout, headSize, Limits, nested}
 use Rattle.format.specs.Bytes.{leAt}
 use Rattle.format.specs.Node.{leaf, inner, child, keyAt, leafCount, slot}
 use Rattle.format.specs.Lookup.{Order, less, equal, greater, order, lookupSlots, lookupChildren, lookupBody, lookupAt, bytesOf, placeOf}
-use Rattle.format.specs.Laws.Read.Children.{Leads, childAt, onChild, on-at, on-absent, look-child, child-leads}
-use Rattle.format.specs.Laws.Read.Node.{Node, leafG, innerG, Good, LeafNode, InnerNode, kind-leaf, as-leaf, as-inner, lookup-node}
+use Rattle.format.specs.Readable.{LeadsTo, childAt, Node, leafG, innerG, Good, LeafNode, InnerNode}
+use Rattle.format.specs.Laws.Read.Children.{onChild, on-at, on-absent, look-child, child-leads}
+use Rattle.format.specs.Laws.Read.Node.{kind-leaf, as-leaf, as-inner, lookup-node}
 use Rattle.btree.specs.Seek.{seekAt}
 use Rattle.btree.specs.declared.map.Seek.{Seek}
 use Rattle.btree.specs.declared.map.Seek.the-variants.{Equal, Less}
@@ -195,7 +196,7 @@ module _ (L : Layout) (s : List ℕ) where
   leaf-room p n (Equal i) h m w = slot-room p i h (omega arith)
   leaf-room p n (Less i) h m w = tt
 
-  child-room : (g : ℕ → Found) (f : ℕ) → ((q : ℕ) → Leads L s f q → InRoom s (g q)) → InRoom s (onChild nothing g (childAt L s f))
+  child-room : (g : ℕ → Found) (f : ℕ) → ((q : ℕ) → LeadsTo L s f q → InRoom s (g q)) → InRoom s (onChild nothing g (childAt L s f))
   unfolding onChild
   child-room g f e = go (childAt L s f) refl
     where
@@ -204,7 +205,7 @@ module _ (L : Layout) (s : List ℕ) where
       go Absent ec = rw ec tt
 
   inner-room : (g : ℕ → Found) (p : ℕ) (r : Seek) → p + headSize L ≤ length s → Within (L .entries) r
-      → ((j q : ℕ) → j ≤ L .entries → Leads L s (child L p j) q → InRoom s (g q)) → InRoom s (innerFound L s g p r)
+      → ((j q : ℕ) → j ≤ L .entries → LeadsTo L s (child L p j) q → InRoom s (g q)) → InRoom s (innerFound L s g p r)
   unfolding innerFound
   inner-room g p (Equal i) h w e = slot-room p i h w
   inner-room g p (Less i) h w e = child-room g (child L p i) (λ q l. e i q w l)
@@ -215,7 +216,7 @@ module _ (L : Layout) (s : List ℕ) where
       let r = n .room in
       rw (slots-seek L s key p (leafCount L s p) 0) (leaf-room p (leafCount L s p) _ (omega arith) (n .count) (seek-within L s p key (leafCount L s p)))
 
-  inner-part : (key : ℕ) (look : ℕ → Found) (p : ℕ) → InnerNode L s p → ((j q : ℕ) → j ≤ L .entries → Leads L s (child L p j) q → InRoom s (look q))
+  inner-part : (key : ℕ) (look : ℕ → Found) (p : ℕ) → InnerNode L s p → ((j q : ℕ) → j ≤ L .entries → LeadsTo L s (child L p j) q → InRoom s (look q))
       → InRoom s (lookupBody L s key look p inner)
   unfolding lookupBody
   inner-part key look p n ih =

@@ -16,8 +16,8 @@ ghost use Rattle.format.specs.Layout.{layout32, standard, nested, headSize};
 ghost use Rattle.format.specs.Node.{leafCount};
 ghost use Rattle.format.specs.Entries.{slots, listAt};
 ghost use Rattle.format.specs.Lookup.{lookupAt, bytesOf, placeOf};
-ghost use Rattle.format.specs.Laws.Read.Node.{Node, LeafNode};
-ghost use Rattle.format.specs.Laws.Read.Written.{out, fill, walked};
+ghost use Rattle.format.specs.Readable.{Node, LeafNode};
+ghost use Rattle.format.specs.Written.{out, fill, walked};
 ghost use Rattle.btree.specs.Seek.{seekAt};
 
 fn visit_leaf(

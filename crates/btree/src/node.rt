@@ -12,9 +12,8 @@ ghost use lib.ListN.{length};
 ghost use Rattle.format.specs.Layout.{layout32, pointer, headSize};
 ghost use Rattle.format.specs.RelPtr.{at, target};
 ghost use Rattle.format.specs.Node.{child, slot};
-ghost use Rattle.format.specs.Laws.Read.Children.{childAt};
-ghost use Rattle.format.specs.Laws.Read.Node.{InnerNode, Down};
-ghost use Rattle.format.specs.Laws.Read.Written.{out, put};
+ghost use Rattle.format.specs.Readable.{childAt, InnerNode, Down};
+ghost use Rattle.format.specs.Written.{out, put};
 
 // Where a field leads that leads back: the bits of its offset are 2^32 less the distance.
 pub fn pointed(archive: &[u8], field: Position) -> Position

@@ -1,6 +1,6 @@
 -- Each refusal of a build and its acceptance, by what the tests told. Assumes nothing.
 use mathlib.Core.Path.{_≡_, refl, sym, ap, _∙_}
-use mathlib.Core.Bool.{Bool, true, false, not}
+use mathlib.Core.Bool.{true, false}
 use mathlib.Core.List.{List, [], _∷_}
 use Prim.Native.Nat.{ℕ, zero, suc, _+_, _≤_, _<_}
 use native.Mathlib.Omega.{arith}
@@ -11,19 +11,11 @@ use lib.Seq.{drop-cons}
 use Rattle.format.specs.Layout.{layout32}
 use Rattle.format.specs.Bytes.{put}
 use Rattle.format.specs.Refusal.{Answer, gives, refuses}
-use Rattle.format.specs.Tree.{Pair}
+use Rattle.format.specs.Tree.{KeyValue}
 use Rattle.format.specs.Build.{treeOf, behind, pairs, risesFrom, rises, build, buildLength, outBy, outAfter}
 use Rattle.format.specs.Laws.Build.Built32.{length-pairs}
 use Rattle.builder.specs.Size.{endOf}
 use Rattle.builder.proofs.Whole.{end-is}
-
-pub not-true : (b : Bool) → not b ≡ true → b ≡ false
-not-true true e = sym e
-not-true false e = refl
-
-pub not-false : (b : Bool) → not b ≡ false → b ≡ true
-not-false true e = refl
-not-false false e = sym e
 
 -- ---- keys that ascend
 
@@ -126,13 +118,13 @@ module _ (n h : ℕ) where
       where
         noughts : (n : ℕ) → pairs (replicate n 0) (replicate n 0) ≡ replicate n (record { key = 0; value = 0 })
         noughts zero = refl
-        noughts (suc n) = ap (λ (l : List Pair). record { key = 0; value = 0 } ∷ l) (noughts n)
+        noughts (suc n) = ap (λ (l : List KeyValue). record { key = 0; value = 0 } ∷ l) (noughts n)
 
         ends : h + length (behind layout32 h (treeOf layout32 (replicate n (record { key = 0; value = 0 }))) n) ≡ endOf n h
         ends =
             let ks : List ℕ = replicate n 0 in
             let el : length ks ≡ n = length-replicate n 0 in
-            ap (λ (l : List Pair). h + length (behind layout32 h (treeOf layout32 l) n)) (sym (noughts n))
+            ap (λ (l : List KeyValue). h + length (behind layout32 h (treeOf layout32 l) n)) (sym (noughts n))
             ∙ ap (λ (x : ℕ). h + length (behind layout32 h (treeOf layout32 (pairs ks ks)) x)) (sym el)
             ∙ end-is ks ks refl (omega arith) h
             ∙ ap (λ (x : ℕ). endOf x h) el

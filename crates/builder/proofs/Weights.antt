@@ -9,7 +9,7 @@ use mathlib.Core.List.{List, [], _∷_}
 use lib.ListN.{length}
 use lib.Dec.{lit≤}
 use Rattle.format.specs.Layout.{layout32}
-use Rattle.format.specs.Tree.{Pair, lengthBranches, lengthBranch}
+use Rattle.format.specs.Tree.{lengthBranches, lengthBranch, KeyValue}
 use Rattle.format.specs.Build.{Filled, FilledBranches, fillNext, fillBranches, fill, height, lastLevel, treeOf}
 use Rattle.format.specs.Laws.Build.Filling.{upper, room, Took, fill-took}
 use Rattle.format.specs.Laws.Build.Height.{fitting}
@@ -74,11 +74,11 @@ five-more p q h = div-five (p * 6 - 1) (q * 6 + 1) (omega arith)
 five-is : (p q r : ℕ) → p ≡ 5 * q + 1 → r ≡ q * 6 + 1 → p * 6 ≡ 5 * r + 1
 five-is p q r h e = omega arith
 
-pub pow-five : (k : ℕ) → 6 ^ k ≡ 5 * ((6 ^ k - 1) / 5) + 1
+pow-five : (k : ℕ) → 6 ^ k ≡ 5 * ((6 ^ k - 1) / 5) + 1
 pow-five zero = refl
 pow-five (suc k) = rw (pow-suc 6 k) (five-is (6 ^ k) ((6 ^ k - 1) / 5) _ (pow-five k) (five-more (6 ^ k) ((6 ^ k - 1) / 5) (pow-five k)))
 
-pub weight-size : (k m : ℕ) → weight (suc k) m ≡ sizeBy (6 ^ k) ((6 ^ k - 1) / 5) (min m (30 * 6 ^ k))
+weight-size : (k m : ℕ) → weight (suc k) m ≡ sizeBy (6 ^ k) ((6 ^ k - 1) / 5) (min m (30 * 6 ^ k))
 unfolding weight
 weight-size zero zero = refl
 weight-size zero (suc m) = let e = zero-weighs 6 (suc m) in omega (arith, e)
@@ -160,12 +160,12 @@ room-pow : (l : ℕ) → room layout32 l ≡ 5 * 6 ^ l
 room-pow zero = refl
 room-pow (suc l) = let e : 6 ^ suc l ≡ 6 ^ l * 6 = pow-suc 6 l in omega (arith, room-pow l)
 
-module _ (give : ℕ → List Pair → Filled) (g : ℕ → ℕ) (q c : ℕ) (took : (m : ℕ) (es : List Pair) → q + min m c ≤ length es → Took layout32 q c m es (give m es))
-    (weighed : (m : ℕ) (es : List Pair) → q + min m c ≤ length es → lengthBranch layout32 (give m es .branch) ≡ g m) where
-  next-weighs : (n m : ℕ) (es : List Pair) (r : Filled) → Took layout32 q c m es r → lengthBranch layout32 (r .branch) ≡ g m → (l : List Pair) → l ≡ r .rest
+module _ (give : ℕ → List KeyValue → Filled) (g : ℕ → ℕ) (q c : ℕ) (took : (m : ℕ) (es : List KeyValue) → q + min m c ≤ length es → Took layout32 q c m es (give m es))
+    (weighed : (m : ℕ) (es : List KeyValue) → q + min m c ≤ length es → lengthBranch layout32 (give m es .branch) ≡ g m) where
+  next-weighs : (n m : ℕ) (es : List KeyValue) (r : Filled) → Took layout32 q c m es r → lengthBranch layout32 (r .branch) ≡ g m → (l : List KeyValue) → l ≡ r .rest
       → suc (suc n) * q + suc n + min m (suc (suc n) * c) ≤ length es
-      → (go : ℕ → List Pair → FilledBranches)
-      → ((es : List Pair) → suc n * q + n + min (r .last) (suc n * c) ≤ length es → lengthBranches layout32 (go (r .last) es .branches) ≡ weighs g c (suc n) (r .last))
+      → (go : ℕ → List KeyValue → FilledBranches)
+      → ((es : List KeyValue) → suc n * q + n + min (r .last) (suc n * c) ≤ length es → lengthBranches layout32 (go (r .last) es .branches) ≡ weighs g c (suc n) (r .last))
       → lengthBranches layout32 (fillNext go r l .branches) ≡ weighs g c (suc (suc n)) m
   next-weighs n m es r D w [] e l go rec = absurd (omega (arith, D .left, ap length e))
   next-weighs n m es r D w (x ∷ xs) e l go rec =
@@ -176,12 +176,12 @@ module _ (give : ℕ → List Pair → Filled) (g : ℕ → ℕ) (q c : ℕ) (to
       sum : (a b x y z : ℕ) → a ≡ b → x ≡ y → y ≡ z → a + x ≡ b + z
       sum a b x y z h e d = omega arith
 
-  branches-weigh : (n m : ℕ) (es : List Pair) → suc n * q + n + min m (suc n * c) ≤ length es → lengthBranches layout32 (fillBranches give n m es .branches) ≡ weighs g c (suc n) m
+  branches-weigh : (n m : ℕ) (es : List KeyValue) → suc n * q + n + min m (suc n * c) ≤ length es → lengthBranches layout32 (fillBranches give n m es .branches) ≡ weighs g c (suc n) m
   branches-weigh zero m es l = omega (arith, weighed m es (omega arith))
   branches-weigh (suc n) m es l =
       next-weighs n m es (give m es) (took m es (omega arith)) (weighed m es (omega arith)) (give m es .rest) refl l (fillBranches give n) (branches-weigh n (give m es .last))
 
-fill-weighs : (h m : ℕ) (es : List Pair) → upper layout32 h + min m (room layout32 h) ≤ length es → lengthBranch layout32 (fill layout32 h m es .branch) ≡ weight h m
+fill-weighs : (h m : ℕ) (es : List KeyValue) → upper layout32 h + min m (room layout32 h) ≤ length es → lengthBranch layout32 (fill layout32 h m es .branch) ≡ weight h m
 unfolding fill weight
 fill-weighs zero zero es l = refl
 fill-weighs zero (suc m) es l = refl
@@ -193,7 +193,7 @@ fill-weighs (suc (suc h)) m es l =
     (branches-weigh (fill layout32 (suc h)) (weight (suc h)) (upper layout32 (suc h)) (room layout32 (suc h)) (fill-took layout32 (suc h)) (fill-weighs (suc h)) 5 m es l
     ∙ ap (λ (c : ℕ). weighs (weight (suc h)) c 6 m) (room-pow (suc h)))
 
-pub tree-weighs : (e : Pair) (es : List Pair) → let n = length (e ∷ es) in lengthBranch layout32 (treeOf layout32 (e ∷ es)) ≡ weight (height layout32 n - 1) (lastLevel layout32 n)
+pub tree-weighs : (e : KeyValue) (es : List KeyValue) → let n = length (e ∷ es) in lengthBranch layout32 (treeOf layout32 (e ∷ es)) ≡ weight (height layout32 n - 1) (lastLevel layout32 n)
 tree-weighs e es =
     let n = length (e ∷ es) in
     let F = fitting layout32 (omega arith) n (omega arith) in

@@ -12,12 +12,12 @@ use Rattle.format.specs.Layout.{layout32}
 use Rattle.format.specs.Bytes.{put}
 use Rattle.format.specs.Refusal.{gives, refuses}
 use Rattle.format.specs.Align.{isAlignment, zerosTo, Step, alignStep}
-use Rattle.format.specs.Laws.Numbers.Align.{alignment-pos, step-given, zeros-lt}
-use Rattle.format.specs.Tree.{Pair, Branch, noneB, someB, lengthBranch, childOf, writeBranch}
+use Rattle.format.specs.Tree.{Branch, noneB, someB, lengthBranch, childOf, writeBranch, KeyValue}
 use Rattle.format.specs.Build.{height, lastLevel, treeOf, firstAlign, recordBytes, behind, pairs}
-use Rattle.format.specs.Laws.Build.Laid.{length-writeBranch}
+use Rattle.format.specs.TreeShape.{There}
+use Rattle.format.specs.Laws.Numbers.Align.{alignment-pos, step-given, zeros-lt}
+use Rattle.format.specs.Laws.Build.NodeBytes.{length-writeBranch}
 use Rattle.format.specs.Laws.Build.Lengths.{behind-length}
-use Rattle.format.specs.Laws.Build.Trees.{There}
 use Rattle.format.specs.Laws.Build.Streaming.{tree-there}
 use Rattle.format.specs.Laws.Build.Built32.{length-pairs}
 use Rattle.builder.specs.Size.{weight, endOf}
@@ -35,22 +35,22 @@ module _ (ks vs : List ℕ) (same : length ks ≡ length vs) (p : 0 < length ks)
       there noneB t = absurd t
       there (someB x) t = refl
 
-      by : (all : List Pair) → length all ≡ length ks → firstAlign layout32 (treeOf layout32 all) ≡ 8
+      by : (all : List KeyValue) → length all ≡ length ks → firstAlign layout32 (treeOf layout32 all) ≡ 8
       by [] e = absurd (omega arith)
       by (x ∷ xs) e = there (treeOf layout32 (x ∷ xs)) (tree-there layout32 (omega arith) x xs)
 
   -- The tree's length is that of the formula.
-  pub tree-weight : lengthBranch layout32 tree ≡ weight (height layout32 (length ks) - 1) (lastLevel layout32 (length ks))
+  tree-weight : lengthBranch layout32 tree ≡ weight (height layout32 (length ks) - 1) (lastLevel layout32 (length ks))
   tree-weight = by (pairs ks vs) (length-pairs ks vs same)
     where
-      by : (all : List Pair) → length all ≡ length ks → lengthBranch layout32 (treeOf layout32 all) ≡ weight (height layout32 (length ks) - 1) (lastLevel layout32 (length ks))
+      by : (all : List KeyValue) → length all ≡ length ks → lengthBranch layout32 (treeOf layout32 all) ≡ weight (height layout32 (length ks) - 1) (lastLevel layout32 (length ks))
       by [] e = absurd (omega arith)
       by (x ∷ xs) e = tree-weighs x xs ∙ ap (λ (n : ℕ). weight (height layout32 n - 1) (lastLevel layout32 n)) e
 
 -- ---- the archive
 
 -- Zeros, the nodes and the record, one after the other.
-pub behind-by : (b : Branch) (a : ℕ) → firstAlign layout32 b ≡ a → (h n : ℕ) (out o₁ o₂ o₃ : List ℕ) → length (writeBranch layout32 b (h + zerosTo a h)) ≡ lengthBranch layout32 b
+behind-by : (b : Branch) (a : ℕ) → firstAlign layout32 b ≡ a → (h n : ℕ) (out o₁ o₂ o₃ : List ℕ) → length (writeBranch layout32 b (h + zerosTo a h)) ≡ lengthBranch layout32 b
     → let p = h + zerosTo a h in
     o₁ ≡ put out h (replicate (p - h) 0) → o₂ ≡ put o₁ p (writeBranch layout32 b p) → o₃ ≡ put o₂ (p + lengthBranch layout32 b) (recordBytes layout32 (p + lengthBranch layout32 b) (childOf layout32 b p) n)
     → o₃ ≡ put out h (behind layout32 h b n)
@@ -73,7 +73,7 @@ behind-by b a ea h n out o₁ o₂ o₃ size e₁ e₂ e₃ =
         let q = h + zerosTo x h in
         replicate (zerosTo x h) 0 ++ (writeBranch layout32 b q ++ recordBytes layout32 (q + lengthBranch layout32 b) (childOf layout32 b q) n)
 
-pub end-none : (h : ℕ) → h + length (behind layout32 h noneB 0) ≡ endOf 0 h
+end-none : (h : ℕ) → h + length (behind layout32 h noneB 0) ≡ endOf 0 h
 unfolding endOf
 end-none h = omega (arith, behind-length layout32 h 0 noneB)
 

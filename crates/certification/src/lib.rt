@@ -14,8 +14,8 @@ ghost use Rattle.format.specs.Layout.{layout32, standard, nested, headSize};
 ghost use Rattle.format.specs.Node.{inner, kind, leafCount, slot};
 ghost use Rattle.format.specs.Entries.{slots, listAt};
 ghost use Rattle.format.specs.Certify.{hollow, hollowAt, ascends};
-ghost use Rattle.format.specs.Laws.Read.Node.{Node, LeafNode};
-ghost use Rattle.format.specs.Laws.Read.Written.{runs};
+ghost use Rattle.format.specs.Readable.{Node, LeafNode};
+ghost use Rattle.format.specs.Written.{runs};
 ghost use Rattle.certification.specs.Survey.{after, step, raised};
 
 // The keys passed: whether there was one, the last, and whether each was above the one before. The two flags are whole words, 1 or 0: of a struct

@@ -1,4 +1,5 @@
 -- What the proofs of several functions use.
+mod Numbers
 mod Given
 mod Looks
 mod Small

@@ -13,7 +13,7 @@ use Rattle.format.specs.Refusal.{gives, refuses}
 use Rattle.format.specs.RelPtr.{at, target}
 use Rattle.format.specs.Check.{counted, checkArchive}
 use Rattle.format.specs.Lookup.{lookup, lookupAt}
-use Rattle.format.specs.Laws.Calls.Opened.{gives-inv, refuses-inv, lookup-accepted, lookup-none, lookup-gives}
+use Rattle.format.specs.Laws.Calls.Accepted.{gives-inv, refuses-inv, lookup-accepted, lookup-none, lookup-gives}
 use Rattle.exports.specs.Many.{Many, many, store, firstMany, sought, allMany, manyCall, manyValues}
 
 -- ---- one key

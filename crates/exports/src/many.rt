@@ -12,7 +12,7 @@ ghost use Prim.Native.Nat.{_<_, _≤_};
 ghost use lib.ListN.{length, getD};
 ghost use Rattle.format.specs.Layout.{layout32, standard, nested};
 ghost use Rattle.format.specs.Lookup.{lookupAt};
-ghost use Rattle.format.specs.Laws.Read.Node.{Node};
+ghost use Rattle.format.specs.Readable.{Node};
 ghost use Rattle.exports.specs.Answers.{coded, Tells};
 ghost use Rattle.exports.specs.Many.{many, store, allMany, manyCall, manyValues};
 

@@ -24,27 +24,31 @@ use Rattle.format.specs.Check.{counted, root, recorded, checkArchive}
 use Rattle.format.specs.Entries.{list}
 use Rattle.format.specs.Reachable.{Field, Lands, Apart}
 use Rattle.format.specs.Certify.{Ascending, Solid, certify}
-use Rattle.format.specs.Lookup.{find, bytesOf, placeOf}
+use Rattle.format.specs.Lookup.{find, bytesOf, placeOf, In}
 use Rattle.format.specs.Range.{crosses, range}
 use Rattle.format.specs.RangeIter.{new, Yields}
 use Rattle.format.specs.Written.{written, keysAfter, valuesAfter}
-use Rattle.format.specs.Tree.{Pair}
+use Rattle.format.specs.Tree.{KeyValue}
 use Rattle.format.specs.Build.{treeOf, pairs, build, buildLength, archive, outBy, outAfter}
 use Rattle.format.specs.Serialize.{serialize, streamed}
 use Rattle.format.specs.Calls.{lookupCall, bytesCall, placeCall, walkCall, walkKeys, walkValues, rangeCall, rangeKeys, rangeValues}
 use Rattle.format.specs.Calls.{columnCall, columnKeys, columnValues}
-use Rattle.format.specs.Laws.Certify.Find.{In, find-found, find-nothing, find-one}
-use Rattle.format.specs.Laws.Calls.Refusals.{check-by, certify-by, lookup-refused, walk-refused, range-refused, column-refused-by}
-use Rattle.format.specs.Laws.Calls.Refusals.{build-by, length-by, signed-by, stored-by, absent-by, align-by, pack-by}
+use Rattle.format.specs.Built.{Taken, Offsets}
+use Rattle.format.specs.Laws.Certify.Find.{find-found, find-nothing, find-one}
+use Rattle.fieldmap.specs.Refusals.{lookup-refused, walk-refused, range-refused, column-refused-by}
+use Rattle.fieldmap.specs.Refusals.{build-by, length-by, signed-by, stored-by, absent-by, align-by, pack-by}
+use Rattle.format.specs.Laws.Check.Refusals.{check-by, certify-by}
 use Rattle.format.specs.Laws.Check.Archive.{field-lands, field-apart, field-once, list-length}
 use Rattle.format.specs.Laws.Certify.Certified.{lookup-certified}
-use Rattle.format.specs.Laws.Calls.Opened.{certify-refuses, lookup-refuses, bytes-refuses, place-refuses, walk-refuses, walk-keys-refuses, walk-values-refuses}
-use Rattle.format.specs.Laws.Calls.Opened.{range-refuses, range-keys-refuses, range-values-refuses, column-uncertified, is-recorded, is-archive}
-use Rattle.format.specs.Laws.Calls.Opened.{lookup-accepted, bytes-accepted, place-accepted, walk-accepted, walk-keys-accepted, walk-values-accepted}
-use Rattle.format.specs.Laws.Calls.Opened.{certified-exactly, is-certified, certified-accepts, range-certified, range-keys-certified, range-values-certified}
+use Rattle.format.specs.Laws.Calls.Accepted.{certify-refuses, lookup-refuses, bytes-refuses, place-refuses, walk-refuses, walk-keys-refuses}
+use Rattle.format.specs.Laws.Calls.Accepted.{walk-values-refuses}
+use Rattle.format.specs.Laws.Calls.Accepted.{is-recorded, is-archive}
+use Rattle.format.specs.Laws.Calls.Accepted.{lookup-accepted, bytes-accepted, place-accepted, walk-accepted, walk-keys-accepted, walk-values-accepted}
+use Rattle.format.specs.Laws.Calls.Certified.{range-refuses, range-keys-refuses, range-values-refuses, column-uncertified}
+use Rattle.format.specs.Laws.Calls.Certified.{certified-exactly, is-certified, certified-accepts, range-certified, range-keys-certified, range-values-certified}
 use Rattle.format.specs.Laws.Range.Iter.{range-yields}
 use Rattle.format.specs.Laws.Numbers.Key.{pack-unpack}
-use Rattle.format.specs.Laws.Build.Built32.{Taken, taken, taken-gives, build-certifies, build-output, build-archive, Offsets, build-emplaces}
+use Rattle.format.specs.Laws.Build.Built32.{taken, taken-gives, build-certifies, build-output, build-archive, build-emplaces}
 use Rattle.format.specs.Laws.Build.Lengths.{length-given}
 use Rattle.format.specs.Laws.Build.Streaming.{never-panics, streamed-archive}
 
@@ -173,11 +177,11 @@ pub demand-2-range : (s : List ℕ) (n : ℕ) → counted (certify layout32 stan
 demand-2-range s n e lo hi c = range-yields layout32 standard s (lit≤ tt) (is-certified layout32 standard s n e) lo hi c
 
 -- The crate's loop meets no `unwrap` of nothing and leaves the archive's bytes.
-pub record Streamed (header : List ℕ) (es : List Pair) : Type 0 where
+pub record Streamed (header : List ℕ) (es : List KeyValue) : Type 0 where
   pub panics : (p : ℕ) → serialize layout32 es p .panics ≡ false
   pub bytes : streamed layout32 header es ≡ archive layout32 header es
 
-pub demand-2-build : (header : List ℕ) (es : List Pair) → Streamed header es
+pub demand-2-build : (header : List ℕ) (es : List KeyValue) → Streamed header es
 demand-2-build header es =
     record { panics = never-panics layout32 (lit≤ tt) es; bytes = streamed-archive layout32 (lit≤ tt) header es }
 
@@ -203,12 +207,12 @@ module _ (s : List ℕ) (n : ℕ) (accepts : counted (checkArchive layout32 stan
       (list-length layout32 standard s (is-archive layout32 standard s n accepts) ∙ sym e, e)
 
   -- "and the walk writes it in order as far as the lent lists go"
-  pub record Walked (ks vs : List ℕ) : Type 0 where
+  pub record WalkWrites (ks vs : List ℕ) : Type 0 where
     pub answer : walkCall layout32 standard s ks vs ≡ gives (record { written = written (list layout32 standard s) ks vs; count = n })
     pub keys : walkKeys layout32 standard s ks vs ≡ keysAfter (list layout32 standard s) ks vs
     pub values : walkValues layout32 standard s ks vs ≡ valuesAfter (list layout32 standard s) ks vs
 
-  pub demand-3-walk : (ks vs : List ℕ) → Walked ks vs
+  pub demand-3-walk : (ks vs : List ℕ) → WalkWrites ks vs
   demand-3-walk ks vs =
       record {
         answer = walk-accepted layout32 standard s n accepts ks vs;
@@ -225,7 +229,7 @@ module _ (s : List ℕ) (n : ℕ) (certifies : counted (certify layout32 standar
   -- "for every key, lookup finds exactly the list's entry with that key, or nothing": what it answers; that the part of the second form is the eight
   -- bytes at that entry's position, and where it stands; that an entry which it finds is the list's and has the key, that every entry of the list is
   -- found by its key, and that where it finds nothing no entry has the key.
-  pub record Looked (k : ℕ) : Type 0 where
+  pub record LookupFinds (k : ℕ) : Type 0 where
     pub answer : lookupCall layout32 standard s k ≡ gives (find k (list layout32 standard s))
     pub part : bytesCall layout32 standard s k ≡ bytesOf s (find k (list layout32 standard s))
     pub place : (a : ℕ × ℕ) → placeCall layout32 standard s a k ≡ placeOf a (find k (list layout32 standard s))
@@ -233,7 +237,7 @@ module _ (s : List ℕ) (n : ℕ) (certifies : counted (certify layout32 standar
     pub only : (e : Entry) → In e (list layout32 standard s) → e .key ≡ k → find k (list layout32 standard s) ≡ found e
     pub miss : find k (list layout32 standard s) ≡ nothing → (e : Entry) → In e (list layout32 standard s) → e .key ≢ k
 
-  pub demand-3-lookup : (k : ℕ) → Looked k
+  pub demand-3-lookup : (k : ℕ) → LookupFinds k
   demand-3-lookup k =
       let C = is-certified layout32 standard s n certifies in
       let a = certified-accepts layout32 standard s n certifies in
@@ -249,13 +253,13 @@ module _ (s : List ℕ) (n : ℕ) (certifies : counted (certify layout32 standar
       }
 
   -- "and for every two bounds the range gives the number of entries that meet both and writes exactly these, in order as far as the lent lists go"
-  pub record Ranged (lo hi : Bound) (ks vs : List ℕ) : Type 0 where
+  pub record RangeWrites (lo hi : Bound) (ks vs : List ℕ) : Type 0 where
     pub answer : rangeCall layout32 standard s lo hi ks vs
         ≡ gives (record { written = written (range layout32 standard s lo hi) ks vs; matching = length (range layout32 standard s lo hi) })
     pub keys : rangeKeys layout32 standard s lo hi ks vs ≡ keysAfter (range layout32 standard s lo hi) ks vs
     pub values : rangeValues layout32 standard s lo hi ks vs ≡ valuesAfter (range layout32 standard s lo hi) ks vs
 
-  pub demand-3-range : (lo hi : Bound) (ks vs : List ℕ) → Ranged lo hi ks vs
+  pub demand-3-range : (lo hi : Bound) (ks vs : List ℕ) → RangeWrites lo hi ks vs
   demand-3-range lo hi ks vs =
       record {
         answer = range-certified layout32 standard s n certifies lo hi ks vs;

@@ -13,7 +13,7 @@ use Rattle.format.specs.Entries.{list}
 use Rattle.format.specs.Written.{written, keysAfter, valuesAfter}
 use Rattle.format.specs.Calls.{Walk, walkCall, walkKeys, walkValues}
 use Rattle.format.specs.Laws.Check.Archive.{archive}
-use Rattle.format.specs.Laws.Calls.Opened.{walk-refuses, walk-accepted, walk-keys-accepted, walk-values-accepted}
+use Rattle.format.specs.Laws.Calls.Accepted.{walk-refuses, walk-accepted, walk-keys-accepted, walk-values-accepted}
 use Rattle.listing.specs.Listing.{title, titleLine, entryLine, entryLines, firstLines, entries, listing}
 use Rattle.listing.proofs.Room.{few-entries}
 

@@ -9,8 +9,9 @@ use Rattle.format.specs.Layout.{layout32, standard, nested}
 use Rattle.format.specs.Node.{sizeAt}
 use Rattle.format.specs.Check.{root, recorded}
 use Rattle.format.specs.Entries.{list}
-use Rattle.format.specs.Laws.Check.Archive.{Archive, list-length}
-use Rattle.format.specs.Laws.Check.Valid.{ChildOk, gone, there, ChildrenOk, last, more, NodeOk, leafOk, innerOk, Holds}
+use Rattle.format.specs.Accepted.{Archive}
+use Rattle.format.specs.NodeRelation.{ChildOk, gone, there, ChildrenOk, last, more, NodeOk, leafOk, innerOk, Holds}
+use Rattle.format.specs.Laws.Check.Archive.{list-length}
 
 module _ (s : List ℕ) where
   -- The n entries of a node at p and of those below it fit between lo and its end, and the end lies in the range.

@@ -14,7 +14,7 @@ use Rattle.format.specs.Layout.{layout32, standard}
 use Rattle.format.specs.Refusal.{gives, refuses}
 use Rattle.format.specs.Check.{counted, checkArchive}
 use Rattle.format.specs.Certify.{certify}
-use Rattle.format.specs.Laws.Calls.Opened.{gives-inv, refuses-inv, certify-refuses}
+use Rattle.format.specs.Laws.Calls.Accepted.{gives-inv, refuses-inv, certify-refuses}
 use Rattle.listing.specs.declared.Title.the-variants.{Certified, Open, Refused}
 use Rattle.listing.specs.Listing.{decimalOf, decimal, title, titleLine, entryLine, firstLines, listing, printed}
 

@@ -17,7 +17,7 @@ use Rattle.nodes.specs.declared.inline_vec.OpenInner.{OpenInner}
 use Rattle.nodes.specs.Nodes.{childAt, pushInner, flat, leafBytes, lesserBytes, innerBytes, noPair}
 
 -- A list of five, written out.
-pub five : {A : Type 0} (l : List A) (d : A) → length l ≡ 5 → getD l 0 d ∷ getD l 1 d ∷ getD l 2 d ∷ getD l 3 d ∷ getD l 4 d ∷ [] ≡ l
+five : {A : Type 0} (l : List A) (d : A) → length l ≡ 5 → getD l 0 d ∷ getD l 1 d ∷ getD l 2 d ∷ getD l 3 d ∷ getD l 4 d ∷ [] ≡ l
 five [] d e = absurd (suc-ne-zero 4 (sym e))
 five (a ∷ []) d e = absurd (suc-ne-zero 3 (sym (suc-inj e)))
 five (a ∷ b ∷ []) d e = absurd (suc-ne-zero 2 (sym (suc-inj (suc-inj e))))
@@ -118,7 +118,7 @@ zeros-step l i to h =
 
 -- ---- a slot that is set at an index that is known
 
-pub push-at : (n : OpenInner) (e : Pair) (c : ChildPos) (k : ℕ) → n .len ≡ k →
+push-at : (n : OpenInner) (e : Pair) (c : ChildPos) (k : ℕ) → n .len ≡ k →
     record { slots = set (n .slots) k (record { key = e .key; value = e .value; lesser = c }); len = n .len + 1 } ≡ pushInner n e c
 push-at n e c k h = ap (λ (j : ℕ). mk j) (sym h)
   where

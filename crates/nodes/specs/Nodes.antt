@@ -87,7 +87,7 @@ abbrev pub lesserBytes : ℕ → ℕ → ℕ → Slot → List ℕ
 lesserBytes f i n s = pickBytes (ltb i n) (offsetBytes layout32 f (childAt (s .lesser .0))) (leBytes 4 0)
 
 -- These fields from the i-th slot on.
-abbrev pub lessersBytes : ℕ → ℕ → ℕ → List Slot → List ℕ
+abbrev lessersBytes : ℕ → ℕ → ℕ → List Slot → List ℕ
 lessersBytes f i n [] = []
 lessersBytes f i n (s ∷ ss) = lesserBytes f i n s ++ lessersBytes (f + 4) (suc i) n ss
 

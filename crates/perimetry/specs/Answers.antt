@@ -12,7 +12,7 @@ abbrev pub packedOf : Packed → Answer ℕ
 packedOf (packed.Key k) = gives k
 packedOf (packed.Refused r) = refuses (number r)
 
-abbrev pub unpackedOf : KeyFields → Key.KeyFields
+abbrev pub unpackedOf : KeyFields → Key.KeyParts
 unpackedOf f = record { examination = f .examination; eye = f .eye; x = f .x; y = f .y; presentation = f .presentation }
 
 abbrev pub columnsOf : Columns → Answer Key.Column

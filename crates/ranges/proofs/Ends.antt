@@ -18,12 +18,14 @@ use Rattle.format.specs.Bytes.{AllBytes}
 use Rattle.format.specs.Node.{Kind, leaf, inner, other, child, kind, keyAt, leafCount, slot}
 use Rattle.format.specs.Entries.{slots, listChild, listChildren, listBody, listAt}
 use Rattle.format.specs.Range.{keyMeetsLower, keyMeetsUpper, matches, select}
+use Rattle.format.specs.Readable.{childAt}
+use Rattle.format.specs.Written.{out, walked}
 use Rattle.format.specs.Laws.Certify.Ascend.{Under}
 use Rattle.format.specs.Laws.Numbers.Bytes.{leAt-lt}
-use Rattle.format.specs.Laws.Read.Children.{childAt, onChild, list-child}
+use Rattle.format.specs.Laws.Read.Children.{onChild, list-child}
 use Rattle.format.specs.Laws.Range.List.{matches-none}
 use Rattle.format.specs.Laws.Check.Reach.{true≢false}
-use Rattle.format.specs.Laws.Read.Written.{out, walked, none-walked}
+use Rattle.format.specs.Laws.Read.Written.{none-walked}
 use Rattle.ranges.specs.Endpoints.{From, UpTo}
 use Rattle.ranges.specs.declared.iter.Endpoint.{Endpoint}
 use Rattle.ranges.specs.declared.iter.Endpoint.the-variants.{Key, Nothing}

@@ -19,13 +19,16 @@ use Rattle.format.specs.Node.{child, keyAt, leafCount, slot}
 use Rattle.format.specs.Entries.{slots, listChildren, listAt}
 use Rattle.format.specs.Certify.{Ascending}
 use Rattle.format.specs.Range.{meetsLower, meetsUpper, matches, select}
+use Rattle.format.specs.Readable.{childAt, Node, InnerNode}
+use Rattle.ranges.proofs.Bounds.{node-few}
+use Rattle.format.specs.Written.{walked}
 use Rattle.format.specs.Laws.Certify.Ascend.{Split, split}
-use Rattle.format.specs.Laws.Read.Bounds.{node-few}
-use Rattle.format.specs.Laws.Read.Children.{childAt, onChild, on-at}
-use Rattle.format.specs.Laws.Read.Node.{Node, InnerNode, kind-leaf}
-use Rattle.format.specs.Laws.Range.Ranged.{Sink, sink, taken, rangeStep, ranged, select-few, step-hit}
-use Rattle.format.specs.Laws.Range.Ranged.{all-ranged, runs-matching, runs-rise, pass-lower, stop-upper}
-use Rattle.format.specs.Laws.Read.Written.{walked, runs-none, runs-cons, runs-append}
+use Rattle.format.specs.Laws.Read.Children.{onChild, on-at}
+use Rattle.ranges.specs.Sink.{Sink, sink, taken, rangeStep, ranged}
+use Rattle.format.specs.Laws.Read.Node.{kind-leaf}
+use Rattle.ranges.proofs.EntryByEntry.{step-hit, all-ranged, runs-matching, runs-rise, pass-lower, stop-upper}
+use Rattle.format.specs.Laws.Range.List.{select-few}
+use Rattle.format.specs.Laws.Read.Written.{runs-none, runs-cons, runs-append}
 use Rattle.btree.proofs.Runs.{slots-more, children-more, children-last, entries-leaf, entries-inner, leaf-step, inner-step, inner-done}
 
 module _ (L : Layout) (s : List ℕ) where

@@ -16,9 +16,9 @@ ghost use Rattle.format.specs.Node.{leafCount, slot};
 ghost use Rattle.format.specs.Entries.{slots, listAt};
 ghost use Rattle.format.specs.Certify.{Ascending};
 ghost use Rattle.format.specs.Range.{matches, select};
-ghost use Rattle.format.specs.Laws.Read.Node.{Node, LeafNode, InnerNode};
-ghost use Rattle.format.specs.Laws.Read.Written.{out, walked};
-ghost use Rattle.format.specs.Laws.Range.Ranged.{sink, taken, ranged};
+ghost use Rattle.format.specs.Readable.{Node, LeafNode, InnerNode};
+ghost use Rattle.format.specs.Written.{out, walked};
+ghost use Rattle.ranges.specs.Sink.{sink, taken, ranged};
 ghost use Rattle.ranges.specs.Endpoints.{From, UpTo};
 
 // What a range answers: the number written and the number matching.

@@ -60,15 +60,6 @@ pub fill-full : (ks vs : List ℕ) (n : OpenInner) (c : ChildPos) (i : ℕ) → 
 unfolding fillS
 fill-full ks vs n c i = refl
 
--- Closing a node leaves the open ones, the next entry and the output's length.
-pub shut-inner-inners : (n : OpenInner) (s : Building) (out : List ℕ) → shutInner n s out .b .inners ≡ s .inners
-unfolding shutInner
-shut-inner-inners n s out = go (fitOf (length out) (s .at) 112)
-  where
-    go : (f : Fit) → shutInnerAt f n s out .b .inners ≡ s .inners
-    go (Ends e) = refl
-    go NoRoom = refl
-
 pub transit-none : (ks vs : List ℕ) (s : Building) (out : List ℕ) → s .inners .len ≡ 0 → record { b = s; out = out } ≡ transitS ks vs s out
 unfolding transitS
 transit-none ks vs s out h = rw (le-ltb 0 (s .inners .len) (omega arith), transitS)

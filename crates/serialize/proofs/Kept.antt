@@ -54,7 +54,7 @@ pub record Same (s t : Building) : Type 0 where
   pub next : t .next ≡ s .next
   pub count : t .count ≡ s .count
 
-pub shut-inner-leaf : (n : OpenInner) (s : Building) (out : List ℕ) → shutInner n s out .b .leaf ≡ s .leaf
+shut-inner-leaf : (n : OpenInner) (s : Building) (out : List ℕ) → shutInner n s out .b .leaf ≡ s .leaf
 unfolding shutInner
 shut-inner-leaf n s out = go (fitOf (length out) (s .at) 112)
   where
@@ -62,7 +62,7 @@ shut-inner-leaf n s out = go (fitOf (length out) (s .at) 112)
     go (Ends e) = refl
     go NoRoom = refl
 
-pub shut-inner-same : (n : OpenInner) (s : Building) (out : List ℕ) → Same s (shutInner n s out .b)
+shut-inner-same : (n : OpenInner) (s : Building) (out : List ℕ) → Same s (shutInner n s out .b)
 unfolding shutInner
 shut-inner-same n s out = go (fitOf (length out) (s .at) 112)
   where
@@ -78,7 +78,7 @@ shut-leaf-same s out = go (fitOf (length out) (s .at) 96)
     go (Ends e) = record { inners = refl; next = refl; count = refl }
     go NoRoom = record { inners = refl; next = refl; count = refl }
 
-pub shut-leaf-empty : (s : Building) (out : List ℕ) → shutLeaf s out .b .leaf .len ≡ 0
+shut-leaf-empty : (s : Building) (out : List ℕ) → shutLeaf s out .b .leaf .len ≡ 0
 unfolding shutLeaf
 shut-leaf-empty s out = go (fitOf (length out) (s .at) 96)
   where
@@ -107,7 +107,7 @@ transit-kept ks vs s out h = go (decLt 0 (s .inners .len))
           count = k .count;
         })
 
-pub climb-kept : (n : ℕ) (ks vs : List ℕ) (p : ℕ) (s : Building) (out : List ℕ) → n ≤ s .inners .len → s .inners .len + p ≤ 5 → Kept s (climbS n ks vs p s out .b)
+climb-kept : (n : ℕ) (ks vs : List ℕ) (p : ℕ) (s : Building) (out : List ℕ) → n ≤ s .inners .len → s .inners .len + p ≤ 5 → Kept s (climbS n ks vs p s out .b)
 climb-kept zero ks vs p s out z h = rw (climb-none ks vs p 0 s out (omega arith)) (record { leaf = refl; few = omega arith; next = omega arith; count = refl })
 climb-kept (suc n) ks vs p s out z h = go (decLt (lastInner (s .inners) .len) 5) (entryAt ks vs (s .next)) refl (λ p s out. climb-kept n ks vs p s out)
   where

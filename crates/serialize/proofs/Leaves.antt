@@ -41,14 +41,14 @@ goes-then ks vs ll s t u o p q g h =
       same = λ f e. g .same f e ∙ h .same (g .fuel f) (g .enough f e);
     }
 
-pub goes-to : (ks vs : List ℕ) (ll : ℕ) (s : Building) (o : List ℕ) (x y : St) → x ≡ y → Goes ks vs ll s o (x .b) (x .out) → Goes ks vs ll s o (y .b) (y .out)
+goes-to : (ks vs : List ℕ) (ll : ℕ) (s : Building) (o : List ℕ) (x y : St) → x ≡ y → Goes ks vs ll s o (x .b) (x .out) → Goes ks vs ll s o (y .b) (y .out)
 goes-to ks vs ll s o x y e g = subst (λ (z : St). Goes ks vs ll s o (z .b) (z .out)) e g
 
 -- An entry stands below the lengths.
-pub entry-here : (ks vs : List ℕ) (i : ℕ) → i < length ks → length ks ≡ length vs → entryAt ks vs i ≡ Got (entryOf ks vs i)
+entry-here : (ks vs : List ℕ) (i : ℕ) → i < length ks → length ks ≡ length vs → entryAt ks vs i ≡ Got (entryOf ks vs i)
 entry-here ks vs i h e = rw (lt-ltb i (length ks) h, lt-ltb i (length vs) (omega arith))
 
-pub goes-turn : (ks vs : List ℕ) (ll : ℕ) (s : Building) (out : List ℕ) (e : Pair) → s .inners .len ≤ 5 → entryAt ks vs (s .next) ≡ Got e →
+goes-turn : (ks vs : List ℕ) (ll : ℕ) (s : Building) (out : List ℕ) (e : Pair) → s .inners .len ≤ 5 → entryAt ks vs (s .next) ≡ Got e →
     Goes ks vs ll s out (turnS ks vs ll e s out .b) (turnS ks vs ll e s out .out)
 goes-turn ks vs ll s out e few h =
     record {
@@ -70,7 +70,7 @@ pub takes-len : (k : ℕ) (ks vs : List ℕ) (i : ℕ) → takes k ks vs i .len 
 takes-len zero ks vs i = refl
 takes-len (suc k) ks vs i = let h = takes-len k ks vs i in omega (arith, h)
 
-abbrev pub tookOf : List ℕ → List ℕ → ℕ → List OpenInner → ℕ → ChildPos → ℕ → ℕ → ℕ → Building
+abbrev tookOf : List ℕ → List ℕ → ℕ → List OpenInner → ℕ → ChildPos → ℕ → ℕ → ℕ → Building
 tookOf ks vs k ns o child count next at =
     record { leaf = takes k ks vs next; inners = record { nodes = ns; len = o }; child = child; count = count + k; next = next + k; at = at }
 
@@ -87,7 +87,7 @@ took-more ks vs k ns o child count next at =
     the-sum x = omega arith
 
 -- Entries that close no leaf.
-pub took-goes : (ks vs : List ℕ) (ll k : ℕ) (ns : List OpenInner) (o : ℕ) (child : ChildPos) (count next at : ℕ) (out : List ℕ) → o ≤ 5 → length ks ≡ length vs →
+took-goes : (ks vs : List ℕ) (ll k : ℕ) (ns : List OpenInner) (o : ℕ) (child : ChildPos) (count next at : ℕ) (out : List ℕ) → o ≤ 5 → length ks ≡ length vs →
     k < 5 → next + k ≤ length ks → ((count + k < ll) ⊎ (ll ≤ count)) →
     Goes ks vs ll (stateOf ns o child count next at) out (tookOf ks vs k ns o child count next at) out
 took-goes ks vs ll zero ns o child count next at out few same l m w =
@@ -119,7 +119,7 @@ took-goes ks vs ll (suc k) ns o child count next at out few same l m w =
     other (inr z) e = omega arith
 
 -- A leaf of k + 1 entries that is full, and not the last level's last.
-pub full-goes : (ks vs : List ℕ) (ll k : ℕ) (ns : List OpenInner) (o : ℕ) (child : ChildPos) (count next at : ℕ) (out : List ℕ) → o ≤ 5 → length ks ≡ length vs →
+full-goes : (ks vs : List ℕ) (ll k : ℕ) (ns : List OpenInner) (o : ℕ) (child : ChildPos) (count next at : ℕ) (out : List ℕ) → o ≤ 5 → length ks ≡ length vs →
     k ≡ 4 → next + suc k ≤ length ks → ((count + suc k < ll) ⊎ (ll ≤ count)) →
     let t = shutLeaf (tookOf ks vs (suc k) ns o child count next at) out in
     let c = climbS (t .b .inners .len) ks vs 0 (t .b) (t .out) in
@@ -148,7 +148,7 @@ full-goes ks vs ll k ns o child count next at out few same l m w =
     other (inr z) e = omega arith
 
 -- The last level's last leaf, of k + 1 entries.
-pub last-goes : (ks vs : List ℕ) (ll k : ℕ) (ns : List OpenInner) (o : ℕ) (child : ChildPos) (count next at : ℕ) (out : List ℕ) → o ≤ 5 → length ks ≡ length vs →
+last-goes : (ks vs : List ℕ) (ll k : ℕ) (ns : List OpenInner) (o : ℕ) (child : ChildPos) (count next at : ℕ) (out : List ℕ) → o ≤ 5 → length ks ≡ length vs →
     k < 5 → next + suc k ≤ length ks → count + suc k ≡ ll →
     let t = shutLeaf (tookOf ks vs (suc k) ns o child count next at) out in
     let u = transitS ks vs (t .b) (t .out) in
@@ -174,7 +174,7 @@ last-goes ks vs ll k ns o child count next at out few same l m w =
 
 -- ---- closing
 
-pub shut-took : (ks vs : List ℕ) (k : ℕ) (ns : List OpenInner) (o : ℕ) (child : ChildPos) (count next at : ℕ) (out : List ℕ) →
+shut-took : (ks vs : List ℕ) (k : ℕ) (ns : List OpenInner) (o : ℕ) (child : ChildPos) (count next at : ℕ) (out : List ℕ) →
     let f = fitOf (length out) at 96 in
     let r = shutOf f child at in
     shutLeaf (tookOf ks vs k ns o child count next at) out
@@ -187,7 +187,7 @@ shut-took ks vs k ns o child count next at out = go (fitOf (length out) at 96)
     go (Ends e) = refl
     go NoRoom = refl
 
-pub shut-inner-state : (n : OpenInner) (ns : List OpenInner) (o : ℕ) (child : ChildPos) (count next at : ℕ) (out : List ℕ) →
+shut-inner-state : (n : OpenInner) (ns : List OpenInner) (o : ℕ) (child : ChildPos) (count next at : ℕ) (out : List ℕ) →
     let f = fitOf (length out) at 112 in
     let r = shutOf f child at in
     shutInner n (stateOf ns o child count next at) out ≡ record { b = stateOf ns o (r .child) count next (r .at); out = outOf f out at (innerBytes at n child) }
@@ -201,11 +201,11 @@ shut-inner-state n ns o child count next at out = go (fitOf (length out) at 112)
 
 -- ---- a stride's step
 
-pub fit-ends : (len at size : ℕ) → at + size ≤ len → fitOf len at size ≡ Ends (at + size)
+fit-ends : (len at size : ℕ) → at + size ≤ len → fitOf len at size ≡ Ends (at + size)
 fit-ends len at size h = rw (le-leb (at + size) len h)
 
 -- A leaf of five and an entry for the lowest open inner node.
-pub stride-step : (ks vs : List ℕ) (ll : ℕ) (ns : List OpenInner) (o : ℕ) (node : OpenInner) (child : ChildPos) (count next at : ℕ) (out : List ℕ) →
+stride-step : (ks vs : List ℕ) (ll : ℕ) (ns : List OpenInner) (o : ℕ) (node : OpenInner) (child : ChildPos) (count next at : ℕ) (out : List ℕ) →
     0 < o → o ≤ 5 → length ns ≡ 5 → length ks ≡ length vs → getD ns (o - 1) (record { slots = []; len = 0 }) ≡ node → node .len < 5 →
     at + 96 ≤ length out → next + 6 ≤ length ks → ((count + 5 < ll) ⊎ (ll ≤ count)) →
     (l : OpenLeaf) (out′ : List ℕ) → l ≡ takes 5 ks vs next → out′ ≡ sets out at (leafBytes (l .entries) (l .len)) →
@@ -294,11 +294,11 @@ strides-more ks vs ll s out₀ r out st same room end told l out′ node el eo e
 
 -- ---- a turn of the loop over leaves
 
-pub reopen-step : (b : ℕ) (s : OpenInners) → 0 < b → reopen b s ≡ reopen (b - 1) (pushInners s)
+reopen-step : (b : ℕ) (s : OpenInners) → 0 < b → reopen b s ≡ reopen (b - 1) (pushInners s)
 reopen-step zero s h = absurd (not-suc-le-zero h)
 reopen-step (suc b) s h = let q : suc b - 1 ≡ b = omega arith in rw q
 
-pub entry-none : (ks vs : List ℕ) (i : ℕ) → length ks ≤ i → entryAt ks vs i ≡ End
+entry-none : (ks vs : List ℕ) (i : ℕ) → length ks ≤ i → entryAt ks vs i ≡ End
 entry-none ks vs i h = rw (le-ltb i (length ks) h)
 
 -- Between two leaves.
@@ -336,14 +336,14 @@ going-strode ks vs ll s₀ out₀ inners child count next at below out g h i ei 
     rw ei (goes-then ks vs ll s₀ (stateOf (inners .nodes) (inners .len) child count next at) _ out₀ out out′ a b)
 
 -- The result, once no entry is left.
-pub ended : (ks vs : List ℕ) (ll : ℕ) (s₀ : Building) (out₀ : List ℕ) (t : Building) (out : List ℕ) → Goes ks vs ll s₀ out₀ t out → entryAt ks vs (t .next) ≡ End →
+ended : (ks vs : List ℕ) (ll : ℕ) (s₀ : Building) (out₀ : List ℕ) (t : Building) (out : List ℕ) → Goes ks vs ll s₀ out₀ t out → entryAt ks vs (t .next) ≡ End →
     (leftOf t ≡ leftOf (runS (length ks) ks vs ll s₀ out₀ .b)) × (out ≡ runS (length ks) ks vs ll s₀ out₀ .out)
 ended ks vs ll s₀ out₀ t out g h =
     let e : runS (length ks) ks vs ll s₀ out₀ ≡ record { b = t; out = out } = g .same (length ks) (omega arith) ∙ run-end (g .fuel (length ks)) ks vs ll t out h in
     (ap (λ (x : St). leftOf (x .b)) (sym e), ap (λ (x : St). x .out) (sym e))
 
 -- Fewer entries are left than a leaf takes.
-pub ended-short : (ks vs : List ℕ) (ll : ℕ) (s₀ : Building) (out₀ : List ℕ) (ns : List OpenInner) (o : ℕ) (child : ChildPos) (count next at : ℕ) (out : List ℕ) →
+ended-short : (ks vs : List ℕ) (ll : ℕ) (s₀ : Building) (out₀ : List ℕ) (ns : List OpenInner) (o : ℕ) (child : ChildPos) (count next at : ℕ) (out : List ℕ) →
     Goes ks vs ll s₀ out₀ (stateOf ns o child count next at) out → o ≤ 5 → length ks ≡ length vs → next ≤ length ks → (k : ℕ) → Sized k count ll → length ks - next < k →
     (record { child = child; at = at } ≡ leftOf (runS (length ks) ks vs ll s₀ out₀ .b)) × (out ≡ runS (length ks) ks vs ll s₀ out₀ .out)
 ended-short ks vs ll s₀ out₀ ns o child count next at out g few same upto k z h =
@@ -356,7 +356,7 @@ ended-short ks vs ll s₀ out₀ ns o child count next at out g few same upto k 
     left (inl y) = inr (y .0)
     left (inr y) = inl (omega (arith, y .0))
 
-pub main-goes : (ks vs : List ℕ) (ll : ℕ) (ns : List OpenInner) (o : ℕ) (child : ChildPos) (count next at : ℕ) (out : List ℕ) → o ≤ 5 → length ks ≡ length vs →
+main-goes : (ks vs : List ℕ) (ll : ℕ) (ns : List OpenInner) (o : ℕ) (child : ChildPos) (count next at : ℕ) (out : List ℕ) → o ≤ 5 → length ks ≡ length vs →
     (k : ℕ) → Sized k count ll → next + k ≤ length ks →
     (l : OpenLeaf) → l ≡ takes k ks vs next → (t : Shut) (o₂ : List ℕ) → t ≡ shutOf (fitOf (length out) at 96) child at → o₂ ≡ outOf (fitOf (length out) at 96) out at (leafBytes (l .entries) (l .len)) →
     (x : Crossed) (o₃ : List ℕ) → CrossesAt ks vs ll (count + k) ns o (t .child) (next + k) (t .at) o₂ x o₃ →

@@ -15,13 +15,14 @@ use Rattle.format.specs.declared.Child.the-variants.{Absent, At}
 use Rattle.format.specs.Layout.{layout32}
 use Rattle.format.specs.Bytes.{leBytes}
 use Rattle.format.specs.Tree as Tree
-use Rattle.format.specs.Tree.{Pair, Slot, slotOf, head, offsetBytes}
+use Rattle.format.specs.Tree.{Slot, slotOf, head, offsetBytes, KeyValue}
 use Rattle.format.specs.Build.{pairs}
 use Rattle.format.specs.Serialize.{State, withInners as withStack, closeLeaf, closeInner, grow, climb, Taken, takeEntries, transit, pushLeaf as pushPair, turn, step, run}
+use Rattle.format.specs.Laws.Build.LoopInner.{replicate-cons}
 use Rattle.format.specs.Laws.Numbers.Bytes.{put-append, length-leBytes}
-use Rattle.format.specs.Laws.Build.Laid.{length-column, length-offset}
+use Rattle.format.specs.Laws.Build.NodeBytes.{length-column, length-offset}
 use Rattle.format.specs.Laws.Build.Built32.{length-pairs}
-use Rattle.format.specs.Laws.Build.Turns.{climb-close, climb-grow, turn-put, turn-close, turn-end}
+use Rattle.format.specs.Laws.Build.LoopSteps.{climb-close, climb-grow, turn-put, turn-close, turn-end}
 use Rattle.serialize.specs.declared.map.Next.the-variants.{Got, End}
 use Rattle.serialize.specs.declared.map.Fit.the-variants.{End as Ends}
 use Rattle.serialize.specs.declared.map.Filled.{Filled}
@@ -38,7 +39,7 @@ use Rattle.serialize.proofs.Kept.{turn-last, turn-more, turn-full, run-
 
 -- ---- the given entries
 
-abbrev pub given : Pair → Given
+abbrev given : KeyValue → Given
 given e = record { key = e .key; value = e .value }
 
 abbrev pub posOf : Child → ChildPos
@@ -49,10 +50,10 @@ pub child-of : (c : Child) → childAt (posOf c .0) ≡ c
 child-of Absent = refl
 child-of (At p) = ap childAt (add-one (p .0))
 
-abbrev pub held : Slot → Held
+abbrev held : Slot → Held
 held s = record { key = s .pair .key; value = s .pair .value; lesser = posOf (s .lesser) }
 
-abbrev none : Pair
+abbrev none : KeyValue
 none = record { key = 0; value = 0 }
 
 pair-at : (ks vs : List ℕ) (i : ℕ) → length ks ≡ length vs → getD (pairs ks vs) i none ≡ record { key = getD ks i 0; value = getD vs i 0 }
@@ -69,11 +70,11 @@ entry-none ks vs i h e =
     let n : length (pairs ks vs) ≡ length ks = length-pairs ks vs h in
     simp (le-ltb i (length ks) (omega arith))
 
-record One (ks vs : List ℕ) (i : ℕ) (e : Pair) (es : List Pair) : Type 0 where
+record One (ks vs : List ℕ) (i : ℕ) (e : KeyValue) (es : List KeyValue) : Type 0 where
   got : entryAt ks vs i ≡ Got (given e)
   rest : drop (i + 1) (pairs ks vs) ≡ es
 
-entry-some : (ks vs : List ℕ) (i : ℕ) (e : Pair) (es : List Pair) → length ks ≡ length vs → drop i (pairs ks vs) ≡ e ∷ es → One ks vs i e es
+entry-some : (ks vs : List ℕ) (i : ℕ) (e : KeyValue) (es : List KeyValue) → length ks ≡ length vs → drop i (pairs ks vs) ≡ e ∷ es → One ks vs i e es
 entry-some ks vs i e es h q =
     let l : length (drop i (pairs ks vs)) ≡ length (pairs ks vs) - i = length-drop i (pairs ks vs) in
     let z : length (drop i (pairs ks vs)) ≡ suc (length es) = ap length q in
@@ -85,7 +86,7 @@ entry-some ks vs i e es h q =
     let x : e ≡ getD (pairs ks vs) i none = cc in
     let y : es ≡ drop (suc i) (pairs ks vs) = cc in
     record {
-      got = simp (lt-ltb i (length ks) a, lt-ltb i (length vs) b) (ap (λ (v : Pair). Got (given v)) (sym (x ∙ pair-at ks vs i h)));
+      got = simp (lt-ltb i (length ks) a, lt-ltb i (length vs) b) (ap (λ (v : KeyValue). Got (given v)) (sym (x ∙ pair-at ks vs i h)));
       rest = ap (λ (j : ℕ). drop j (pairs ks vs)) (add-one i) ∙ sym y;
     }
 
@@ -111,19 +112,19 @@ pad-set {X} {Y} f d xs x h =
     ∙ ap (λ (l : List Y). l ++ replicate k d) (sym (map-snoc f xs x))
     ∙ ap (λ (i : ℕ). map f (xs ++ (x ∷ [])) ++ replicate (5 - i) d) (sym n)
 
-abbrev pub leafOn : List Pair → OpenLeaf
+abbrev pub leafOn : List KeyValue → OpenLeaf
 leafOn xs = record { entries = pad given noPair xs; len = length xs }
 
-abbrev pub innerOn : List Slot → OpenInner
+abbrev innerOn : List Slot → OpenInner
 innerOn n = record { slots = pad held noSlot n; len = length n }
 
-leaf-push : (xs : List Pair) (e : Pair) → length xs < 5 → pushLeaf (leafOn xs) (given e) ≡ leafOn (xs ++ (e ∷ []))
+leaf-push : (xs : List KeyValue) (e : KeyValue) → length xs < 5 → pushLeaf (leafOn xs) (given e) ≡ leafOn (xs ++ (e ∷ []))
 leaf-push xs e h = leaf-path (pad-set given noPair xs e h) (sym (length-append xs (e ∷ [])))
   where
     leaf-path : {a b : List Given} {n m : ℕ} → a ≡ b → n ≡ m → _≡_ {A = OpenLeaf} (record { entries = a; len = n }) (record { entries = b; len = m })
     leaf-path p q = λ i. record { entries = p i; len = q i }
 
-inner-push : (n : List Slot) (e : Pair) (c : Child) → length n < 5 → pushInner (innerOn n) (given e) (posOf c) ≡ innerOn (n ++ (slotOf e c ∷ []))
+inner-push : (n : List Slot) (e : KeyValue) (c : Child) → length n < 5 → pushInner (innerOn n) (given e) (posOf c) ≡ innerOn (n ++ (slotOf e c ∷ []))
 inner-push n e c h = inner-path (pad-set held noSlot n (slotOf e c) h) (sym (length-append n (slotOf e c ∷ [])))
   where
     inner-path : {a b : List Held} {n m : ℕ} → a ≡ b → n ≡ m → _≡_ {A = OpenInner} (record { slots = a; len = n }) (record { slots = b; len = m })
@@ -131,7 +132,7 @@ inner-push n e c h = inner-path (pad-set held noSlot n (slotOf e c) h) (sym (len
 
 -- ---- their bytes
 
-leaf-bytes : (xs : List Pair) → length xs ≤ 5 → leafBytes (pad given noPair xs) (length xs) ≡ Tree.leafBytes layout32 xs
+leaf-bytes : (xs : List KeyValue) → length xs ≤ 5 → leafBytes (pad given noPair xs) (length xs) ≡ Tree.leafBytes layout32 xs
 unfolding leafBytes Tree.leafBytes head leBytes
 leaf-bytes [] h = refl
 leaf-bytes (a ∷ []) h = refl
@@ -141,7 +142,7 @@ leaf-bytes (a ∷ b ∷ c ∷ d ∷ []) h = refl
 leaf-bytes (a ∷ b ∷ c ∷ d ∷ e ∷ []) h = refl
 leaf-bytes (a ∷ b ∷ c ∷ d ∷ e ∷ f ∷ xs) h = absurd (omega arith)
 
-leaf-96 : (xs : List Pair) → length (Tree.leafBytes layout32 xs) ≡ 96
+leaf-96 : (xs : List KeyValue) → length (Tree.leafBytes layout32 xs) ≡ 96
 unfolding Tree.leafBytes head
 leaf-96 xs = simp (length-append, length-column, length-leBytes, length-replicate) (omega arith)
 
@@ -234,14 +235,10 @@ stack-push i st w h =
       holds = (getD-set-same (i .nodes) (length st) newInner noInner (omega (arith, w .five)), (lit≤ tt, holds-set (i .nodes) st (length st) newInner (omega arith) (w .holds)));
     })
 
-cons-replicate : {A : Type 0} (l : ℕ) (x : A) (S : List A) → replicate l x ++ (x ∷ S) ≡ x ∷ (replicate l x ++ S)
-cons-replicate zero x S = refl
-cons-replicate {A} (suc l) x S = ap (λ (r : List A). x ∷ r) (cons-replicate l x S)
-
 pub stack-reopen : (p : ℕ) (i : OpenInners) (st : List (List Slot)) → Stacked i st → length st + p ≤ 5 → Stacked (reopen p i) (replicate p [] ++ st)
 stack-reopen zero i st w h = w
 stack-reopen (suc p) i st w h =
-    subst (λ (x : List (List Slot)). Stacked (reopen p (pushInners i)) x) (cons-replicate p [] st)
+    subst (λ (x : List (List Slot)). Stacked (reopen p (pushInners i)) x) (replicate-cons p [] st)
     (stack-reopen p (pushInners i) ([] ∷ st) (stack-push i st w (omega arith)) (omega arith))
 
 -- ---- the two states
@@ -317,7 +314,7 @@ unfolding climb
 climb-mono [] p a = omega arith
 climb-mono (n ∷ st) p a = go (ℕ-discrete (length n) 5) (λ p a. climb-mono st p a)
   where
-    grows : (r : List Pair) → grow layout32 r n st p a .pos ≡ a .pos
+    grows : (r : List KeyValue) → grow layout32 r n st p a .pos ≡ a .pos
     grows [] = refl
     grows (e ∷ es) = refl
 
@@ -332,7 +329,7 @@ unfolding transit
 transit-mono [] a = omega arith
 transit-mono (n ∷ st) a = omega arith
 
-turn-mono : (ll : ℕ) (e : Pair) (es : List Pair) (a : State) → a .pos ≤ turn layout32 ll e es a .pos
+turn-mono : (ll : ℕ) (e : KeyValue) (es : List KeyValue) (a : State) → a .pos ≤ turn layout32 ll e es a .pos
 turn-mono ll e es a = go (ℕ-discrete (suc (a .leafEntries)) ll) (ℕ-discrete (length (a .openLeaf ++ (e ∷ []))) 5)
   where
     go : Dec (suc (a .leafEntries) ≡ ll) → Dec (length (a .openLeaf ++ (e ∷ [])) ≡ 5) → a .pos ≤ turn layout32 ll e es a .pos
@@ -350,7 +347,7 @@ unfolding run
 run-mono zero ll a = omega arith
 run-mono (suc k) ll a = let i = run-mono k ll (step layout32 ll (a .iter) a) in omega (arith, step-mono (a .iter))
   where
-    step-mono : (r : List Pair) → a .pos ≤ step layout32 ll r a .pos
+    step-mono : (r : List KeyValue) → a .pos ≤ step layout32 ll r a .pos
     step-mono [] = omega arith
     step-mono (e ∷ es) = turn-mono ll e es a
 
@@ -360,7 +357,7 @@ module _ (ks vs out₀ : List ℕ) (at₀ : ℕ) (same : length ks ≡ length vs
   On : Building → List ℕ → State → Type 0
   On s out a = Sim ks vs out₀ at₀ s out a
 
-  grow-sim : (st : List (List Slot)) (n : List Slot) (p : ℕ) (s : Building) (out : List ℕ) (a : State) (e : Pair) (es : List Pair) → On s out (withStack a (n ∷ st)) → length n < 5 → length st + suc p ≤ 5
+  grow-sim : (st : List (List Slot)) (n : List Slot) (p : ℕ) (s : Building) (out : List ℕ) (a : State) (e : KeyValue) (es : List KeyValue) → On s out (withStack a (n ∷ st)) → length n < 5 → length st + suc p ≤ 5
       → drop (s .next + 1) (pairs ks vs) ≡ es → On (growAt (Got (given e)) p s) out (grow layout32 (e ∷ es) n st p a)
   unfolding On
   grow-sim st n p s out a e es w h l r =
@@ -389,14 +386,14 @@ module _ (ks vs out₀ : List ℕ) (at₀ : ℕ) (same : length ks ≡ length vs
       low : lastInner (s .inners) ≡ innerOn n
       low = stack-last (s .inners) n st (w .stack)
 
-      go : Dec (length n < 5) → (x : List Pair) → a .iter ≡ x
+      go : Dec (length n < 5) → (x : List KeyValue) → a .iter ≡ x
           → ((p : ℕ) (s : Building) (out : List ℕ) (a : State) → Sim ks vs out₀ at₀ s out (withStack a st) → length st + p ≤ 5 → climb layout32 st p a .pos ≤ length out₀
           → Sim ks vs out₀ at₀ (climbS (length st) ks vs p s out .b) (climbS (length st) ks vs p s out .out) (climb layout32 st p a))
           → Sim ks vs out₀ at₀ (climbS (suc (length st)) ks vs p s out .b) (climbS (suc (length st)) ks vs p s out .out) (climb layout32 (n ∷ st) p a)
       go (yes h) [] e ih =
           let k : lastInner (s .inners) .len < 5 = omega (arith, ap (λ (x : OpenInner). x .len) low) in
           subst (λ (x : State). Sim ks vs out₀ at₀ (climbS (suc (length st)) ks vs p s out .b) (climbS (suc (length st)) ks vs p s out .out) x)
-          (sym (climb-grow layout32 n st p a (λ z. omega arith) ∙ ap (λ (y : List Pair). grow layout32 y n st p a) e))
+          (sym (climb-grow layout32 n st p a (λ z. omega arith) ∙ ap (λ (y : List KeyValue). grow layout32 y n st p a) e))
           (subst (λ (t : St). Sim ks vs out₀ at₀ (t .b) (t .out) (grow layout32 [] n st p a))
           (sym (climb-end ks vs p (suc (length st)) s out (omega arith) k (entry-none ks vs (s .next) same (w .rest ∙ e))))
           (record { leaf = w .leaf; stack = w .stack; child = w .child; count = w .count; rest = w .rest ∙ e; at = w .at; place = w .place; written = w .written }))
@@ -404,7 +401,7 @@ module _ (ks vs out₀ : List ℕ) (at₀ : ℕ) (same : length ks ≡ length vs
           let k : lastInner (s .inners) .len < 5 = omega (arith, ap (λ (x : OpenInner). x .len) low) in
           let o = entry-some ks vs (s .next) x xs same (w .rest ∙ e) in
           subst (λ (y : State). Sim ks vs out₀ at₀ (climbS (suc (length st)) ks vs p s out .b) (climbS (suc (length st)) ks vs p s out .out) y)
-          (sym (climb-grow layout32 n st p a (λ z. omega arith) ∙ ap (λ (y : List Pair). grow layout32 y n st p a) e))
+          (sym (climb-grow layout32 n st p a (λ z. omega arith) ∙ ap (λ (y : List KeyValue). grow layout32 y n st p a) e))
           (subst (λ (t : St). Sim ks vs out₀ at₀ (t .b) (t .out) (grow layout32 (x ∷ xs) n st p a))
           (sym (climb-got ks vs p (suc (length st)) s out (given x) (omega arith) k (o .got))) (grow-sim st n p s out a x xs w h (omega arith) (o .rest)))
       go (no h) x e ih =
@@ -429,7 +426,7 @@ module _ (ks vs out₀ : List ℕ) (at₀ : ℕ) (same : length ks ≡ length vs
     rest : drop (x .next) (pairs ks vs) ≡ f .iter
     short : length (f .node) ≤ 5
 
-  fill-sim : (k : ℕ) (n : List Slot) (c : Child) (i : ℕ) (es : List Pair) → drop i (pairs ks vs) ≡ es → length n + k ≤ 5 → Fills (fillS k ks vs (innerOn n) (posOf c) i) (takeEntries layout32 k n c es)
+  fill-sim : (k : ℕ) (n : List Slot) (c : Child) (i : ℕ) (es : List KeyValue) → drop i (pairs ks vs) ≡ es → length n + k ≤ 5 → Fills (fillS k ks vs (innerOn n) (posOf c) i) (takeEntries layout32 k n c es)
   unfolding fillS takeEntries
   fill-sim zero n c i es r l = record { node = refl; child = refl; rest = r; short = omega arith }
   fill-sim (suc k) n c i [] r l =
@@ -462,7 +459,7 @@ module _ (ks vs out₀ : List ℕ) (at₀ : ℕ) (same : length ks ≡ length vs
       subst (λ (t : St). Sim ks vs out₀ at₀ (t .b) (t .out) (closeInner layout32 (f .node) b)) (transit-some ks vs s out some)
       (shut-inner-sim ks vs out₀ at₀ (x .node) (withFilled s (popInners (s .inners)) x) out (f .node) b w′ (g .node) (g .short) r)
 
-  take-sim : (s : Building) (out : List ℕ) (a : State) (e : Pair) (es : List Pair) → On s out a → length (a .openLeaf) < 5 → drop (s .next + 1) (pairs ks vs) ≡ es → On (takeB s (given e)) out (pushPair layout32 a e es)
+  take-sim : (s : Building) (out : List ℕ) (a : State) (e : KeyValue) (es : List KeyValue) → On s out a → length (a .openLeaf) < 5 → drop (s .next + 1) (pairs ks vs) ≡ es → On (takeB s (given e)) out (pushPair layout32 a e es)
   unfolding On
   take-sim s out a e es w h r =
       record {
@@ -491,13 +488,13 @@ module _ (ks vs out₀ : List ℕ) (at₀ : ℕ) (same : length ks ≡ length vs
   unfolding On
   count-of s out a w = w .count
 
-  turn-sim-more : (ll : ℕ) (s : Building) (out : List ℕ) (a : State) (e : Pair) (es : List Pair) → On (takeB s (given e)) out (pushPair layout32 a e es) → (s .count + 1 ≡ ll → ⊥) → (suc (a .leafEntries) ≡ ll → ⊥)
+  turn-sim-more : (ll : ℕ) (s : Building) (out : List ℕ) (a : State) (e : KeyValue) (es : List KeyValue) → On (takeB s (given e)) out (pushPair layout32 a e es) → (s .count + 1 ≡ ll → ⊥) → (suc (a .leafEntries) ≡ ll → ⊥)
       → s .leaf .len + 1 < 5 → (length (a .openLeaf ++ (e ∷ [])) ≡ 5 → ⊥) → On (turnS ks vs ll (given e) s out .b) (turnS ks vs ll (given e) s out .out) (turn layout32 ll e es a)
   unfolding On
   turn-sim-more ll s out a e es w q q′ l l′ =
       subst₂ (λ (y : St) (z : State). Sim ks vs out₀ at₀ (y .b) (y .out) z) (turn-more ks vs ll (given e) s out q l) (sym (turn-put layout32 ll e es a q′ l′)) w
 
-  turn-sim-last : (ll : ℕ) (s : Building) (out : List ℕ) (a : State) (e : Pair) (es : List Pair) → On (takeB s (given e)) out (pushPair layout32 a e es) → length (a .openLeaf) < 5 → s .inners .len ≤ 5
+  turn-sim-last : (ll : ℕ) (s : Building) (out : List ℕ) (a : State) (e : KeyValue) (es : List KeyValue) → On (takeB s (given e)) out (pushPair layout32 a e es) → length (a .openLeaf) < 5 → s .inners .len ≤ 5
       → turn layout32 ll e es a .pos ≤ length out₀ → s .count + 1 ≡ ll → suc (a .leafEntries) ≡ ll → On (turnS ks vs ll (given e) s out .b) (turnS ks vs ll (given e) s out .out) (turn layout32 ll e es a)
   unfolding On
   turn-sim-last ll s out a e es w h few big q q′ =
@@ -517,7 +514,7 @@ module _ (ks vs out₀ : List ℕ) (at₀ : ℕ) (same : length ks ≡ length vs
       let v₃ = climb-on (u .b) (u .out) uA v₂ (omega (arith, k₂ .few, v₂ .stack .len)) r₃ in
       subst₂ (λ (y : St) (z : State). Sim ks vs out₀ at₀ (y .b) (y .out) z) (turn-last ks vs ll (given e) s out q) (sym c) v₃
 
-  turn-sim-full : (ll : ℕ) (s : Building) (out : List ℕ) (a : State) (e : Pair) (es : List Pair) → On (takeB s (given e)) out (pushPair layout32 a e es) → length (a .openLeaf) < 5 → s .inners .len ≤ 5
+  turn-sim-full : (ll : ℕ) (s : Building) (out : List ℕ) (a : State) (e : KeyValue) (es : List KeyValue) → On (takeB s (given e)) out (pushPair layout32 a e es) → length (a .openLeaf) < 5 → s .inners .len ≤ 5
       → turn layout32 ll e es a .pos ≤ length out₀ → (s .count + 1 ≡ ll → ⊥) → (suc (a .leafEntries) ≡ ll → ⊥) → 5 ≤ s .leaf .len + 1 → length (a .openLeaf ++ (e ∷ [])) ≡ 5
       → On (turnS ks vs ll (given e) s out .b) (turnS ks vs ll (given e) s out .out) (turn layout32 ll e es a)
   unfolding On
@@ -532,7 +529,7 @@ module _ (ks vs out₀ : List ℕ) (at₀ : ℕ) (same : length ks ≡ length vs
       let v₃ = climb-on (t .b) (t .out) tA v₁ (omega (arith, v₁ .stack .len)) r₃ in
       subst₂ (λ (y : St) (z : State). Sim ks vs out₀ at₀ (y .b) (y .out) z) (turn-full ks vs ll (given e) s out q l) (sym c) v₃
 
-  turn-sim : (ll : ℕ) (s : Building) (out : List ℕ) (a : State) (e : Pair) (es : List Pair) → On s out a → s .leaf .len < 5 → s .inners .len ≤ 5 → drop (s .next + 1) (pairs ks vs) ≡ es
+  turn-sim : (ll : ℕ) (s : Building) (out : List ℕ) (a : State) (e : KeyValue) (es : List KeyValue) → On s out a → s .leaf .len < 5 → s .inners .len ≤ 5 → drop (s .next + 1) (pairs ks vs) ≡ es
       → turn layout32 ll e es a .pos ≤ length out₀ → On (turnS ks vs ll (given e) s out .b) (turnS ks vs ll (given e) s out .out) (turn layout32 ll e es a)
   turn-sim ll s out a e es w h few r big = go (ℕ-discrete (s .count + 1) ll) (decLt (s .leaf .len + 1) 5)
     where
@@ -560,17 +557,17 @@ module _ (ks vs out₀ : List ℕ) (at₀ : ℕ) (same : length ks ≡ length vs
   run-idle : (k ll : ℕ) (a : State) → a .iter ≡ [] → run layout32 k ll a ≡ a
   unfolding run
   run-idle zero ll a h = refl
-  run-idle (suc k) ll a h = ap (λ (r : List Pair). run layout32 k ll (step layout32 ll r a)) h ∙ run-idle k ll a h
+  run-idle (suc k) ll a h = ap (λ (r : List KeyValue). run layout32 k ll (step layout32 ll r a)) h ∙ run-idle k ll a h
 
-  run-one : (k ll : ℕ) (a : State) (r : List Pair) → a .iter ≡ r → run layout32 (suc k) ll a ≡ run layout32 k ll (step layout32 ll r a)
+  run-one : (k ll : ℕ) (a : State) (r : List KeyValue) → a .iter ≡ r → run layout32 (suc k) ll a ≡ run layout32 k ll (step layout32 ll r a)
   unfolding run
-  run-one k ll a r h = ap (λ (r : List Pair). run layout32 k ll (step layout32 ll r a)) h
+  run-one k ll a r h = ap (λ (r : List KeyValue). run layout32 k ll (step layout32 ll r a)) h
 
   run-more : (k ll : ℕ) → Runs k ll → Runs (suc k) ll
   unfolding Runs On
   run-more k ll ih s out a w h few big = go (a .iter) refl
     where
-      go : (r : List Pair) → a .iter ≡ r → Sim ks vs out₀ at₀ (runS (suc k) ks vs ll s out .b) (runS (suc k) ks vs ll s out .out) (run layout32 (suc k) ll a)
+      go : (r : List KeyValue) → a .iter ≡ r → Sim ks vs out₀ at₀ (runS (suc k) ks vs ll s out .b) (runS (suc k) ks vs ll s out .out) (run layout32 (suc k) ll a)
       go [] e =
           subst₂ (λ (y : St) (z : State). Sim ks vs out₀ at₀ (y .b) (y .out) z) (sym (run-end (suc k) ks vs ll s out (entry-none ks vs (s .next) same (w .rest ∙ e)))) (sym (run-idle (suc k) ll a e)) w
       go (x ∷ xs) e =

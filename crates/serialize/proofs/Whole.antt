@@ -7,20 +7,19 @@ use native.Mathlib.Omega.{arith}
 use native.Mathlib.Nat.{not-suc-le-zero, pow-suc}
 use borrow.Author.Tests.{lt-ltb, le-ltb}
 use lib.ListN.{length, replicate}
-use lib.Dec.{lit<, lit≤}
+use lib.Dec.{lit<}
 use Rattle.format.specs.declared.Child.{Child}
 use Rattle.nodes.specs.declared.inline_vec.ChildPos.{ChildPos}
 use Rattle.format.specs.declared.Child.the-variants.{Absent}
 use Rattle.format.specs.Layout.{layout32}
 use Rattle.format.specs.Bytes.{leBytes, put}
-use Rattle.format.specs.Tree.{Pair, Slot, Branch, offsetBytes, lengthBranch, childOf, writeBranch}
+use Rattle.format.specs.Tree.{Slot, Branch, offsetBytes, lengthBranch, childOf, writeBranch, KeyValue}
 use Rattle.format.specs.Build.{logFrom, height, lastLevel, treeOf, recordBytes, pairs}
-use Rattle.format.specs.Serialize.{State, run}
-use Rattle.format.specs.Laws.Build.Laid.{length-offset}
-use Rattle.format.specs.Laws.Build.Filling.{upper}
+use Rattle.format.specs.Serialize.{State, run, Agrees}
+use Rattle.format.specs.Laws.Build.NodeBytes.{length-offset}
 use Rattle.format.specs.Laws.Build.Height.{fitting}
-use Rattle.format.specs.Laws.Build.Streaming.{Agrees, run-agrees}
-use Rattle.format.specs.Laws.Build.Built32.{length-pairs}
+use Rattle.format.specs.Laws.Build.Streaming.{run-agrees}
+use Rattle.format.specs.Laws.Build.Built32.{levels, length-pairs}
 use Rattle.nodes.specs.declared.ser_vec.OpenInners.{OpenInners}
 use Rattle.nodes.specs.Nodes.{childAt, noChild, newInners}
 use Rattle.serialize.specs.Machine.{St, runS, reopen}
@@ -30,15 +29,6 @@ use Rattle.serialize.proofs.Kept.{reopen-len}
 use Rattle.serialize.proofs.Lists.{child-of, Sim, Stacked, stack-reopen, run-sim}
 
 -- ---- the height
-
-levels : (h : ℕ) → upper layout32 h < 40000 → h ≤ 5
-levels zero l = lit≤ tt
-levels (suc zero) l = lit≤ tt
-levels (suc (suc zero)) l = lit≤ tt
-levels (suc (suc (suc zero))) l = lit≤ tt
-levels (suc (suc (suc (suc zero)))) l = lit≤ tt
-levels (suc (suc (suc (suc (suc zero))))) l = lit≤ tt
-levels (suc (suc (suc (suc (suc (suc h)))))) l = absurd (omega arith)
 
 pub record Depth (n d : ℕ) : Type 0 where
   pub low : d ≤ 5
@@ -83,7 +73,7 @@ pub record Wrote (t : St) (b : Branch) (out : List ℕ) (at : ℕ) : Type 0 wher
   pub place : t .b .at ≡ at + lengthBranch layout32 b
   pub size : length (writeBranch layout32 b at) ≡ lengthBranch layout32 b
 
-wrote-all : (ks vs out : List ℕ) (at : ℕ) → length ks ≡ length vs → (all : List Pair) → pairs ks vs ≡ all → 0 < length all → length all ≤ 40000
+wrote-all : (ks vs out : List ℕ) (at : ℕ) → length ks ≡ length vs → (all : List KeyValue) → pairs ks vs ≡ all → 0 < length all → length all ≤ 40000
     → at + lengthBranch layout32 (treeOf layout32 all) ≤ length out
     → let n = length all in
     let i = reopen (height layout32 n - 1) newInners in Wrote (runS n ks vs (lastLevel layout32 n) (stateOf (i .nodes) (i .len) noChild 0 0 at) out) (treeOf layout32 all) out at

@@ -6,7 +6,7 @@ use Rattle.format.specs.Layout.{layout32, headSize, nodeAlign}
 use Rattle.format.specs.Refusal.{number}
 use Rattle.format.specs.Node.{inner}
 use Rattle.format.specs.Check.{Checked, accepted, refused, enter, checkNode}
-use Rattle.format.specs.Laws.Check.Entered.{entered}
+use Rattle.validation.specs.Entered.{entered}
 use Rattle.format.specs.declared.Position.{Position}
 use Rattle.format.specs.declared.Refusal.the-variants.{InvalidSubtreePointer}
 use Rattle.format.specs.declared.CheckAnswer.{CheckAnswer}

@@ -1,2 +1,3 @@
 pub mod Subtree
+pub mod Entered
 pub mod Answers

@@ -22,7 +22,7 @@ ghost use Rattle.format.specs.Layout.{layout32, standard, pointer, headSize, no
 ghost use Rattle.format.specs.Refusal.{checkOf};
 ghost use Rattle.format.specs.Node.{leaf, inner};
 ghost use Rattle.format.specs.Check.{counted, enter, checkNode, recorded, checkRoot, checkArchive};
-ghost use Rattle.format.specs.Laws.Check.Entered.{entered};
+ghost use Rattle.validation.specs.Entered.{entered};
 ghost use Rattle.validation.specs.Subtree.{Held};
 ghost use Rattle.validation.specs.Answers.{refusedPtr, nodeOf, refusedNode, enteredLeaf, Enters};
 

@@ -11,14 +11,15 @@ use Rattle.format.specs.Layout.{layout32, leafSize, standard, nested}
 use Rattle.format.specs.Node.{child}
 use Rattle.format.specs.Entries.{listAt}
 use Rattle.format.specs.Certify.{hollowAt}
-use Rattle.format.specs.Laws.Read.Children.{onChild, childAt}
+use Rattle.format.specs.Readable.{childAt}
+use Rattle.format.specs.Written.{runs}
+use Rattle.format.specs.Laws.Read.Children.{onChild}
 use Rattle.format.specs.Laws.Read.Node.{as-leaf, as-inner, node-room, child-falls}
-use Rattle.format.specs.Laws.Read.Written.{runs, runs-none}
+use Rattle.format.specs.Laws.Read.Written.{runs-none}
 use Rattle.certification.specs.Survey.{step, raised}
-use Rattle.btree.specs.NextChild.{next-child}
+use Rattle.btree.proofs.NextChild.{next-child}
 use Rattle.btree.proofs.Runs.{leaf-run}
-use Rattle.certification.proofs.Surveys.{byte-inner, left, left-step, left-last, left-done}
-use Rattle.certification.proofs.Surveys.{anyLeft, raised-not, leaf-flag, flag-step, flag-done}
+use Rattle.certification.proofs.Surveys.{byte-inner, left, left-step, left-last, left-done, anyLeft, raised-not, leaf-flag, flag-step, flag-done}
 use borrow.Author.Needs.{needs}
 use borrow.Fn.Kinds.{In, Out}
 use borrow.Fn.PlainCycle.{Measures, is, falls, and}

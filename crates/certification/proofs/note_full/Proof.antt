@@ -1,6 +1,6 @@
 -- `certification::note_full` meets its contract. Assumes nothing.
 use Rattle.format.specs.Entries.{slots}
-use Rattle.format.specs.Laws.Read.Written.{runs}
+use Rattle.format.specs.Written.{runs}
 use borrow.Author.Needs.{needs}
 use Rattle.certification.proofs.note_full.Statement.{statement}
 use Rattle.certification.proofs.note_full.Tie as tie

@@ -5,7 +5,7 @@ use lib.ListN.{length}
 use borrow.Author.Needs.{needs}
 use Rattle.format.specs.Layout.{layout32, leafSize}
 use Rattle.format.specs.Entries.{slots}
-use Rattle.format.specs.Laws.Read.Written.{runs}
+use Rattle.format.specs.Written.{runs}
 use Rattle.certification.specs.Survey.{step}
 use Rattle.btree.proofs.Runs.{leaf-step, leaf-done}
 use Rattle.certification.proofs.note_leaf.Statement.{statement}

@@ -2,9 +2,9 @@
 use mathlib.Core.Path.{sym}
 use native.Mathlib.Omega.{arith}
 use Rattle.format.specs.Layout.{layout32, standard}
-use Rattle.format.specs.Laws.Calls.Opened.{room-for, node, certify-refuses, certify-none, certify-8, certify-9, certify-all}
+use Rattle.format.specs.Laws.Calls.Accepted.{room-for, node, certify-refuses, certify-none, certify-8, certify-9, certify-all}
 use borrow.Author.Needs.{needs}
-use Rattle.fieldmap.specs.Told.{accepted-told, refused-told, root-requires}
+use Rattle.fieldmap.proofs.Told.{accepted-told, refused-told, root-requires}
 use Rattle.fieldmap.proofs.certify.Statement.{statement}
 use Rattle.fieldmap.proofs.certify.Tie as tie
 

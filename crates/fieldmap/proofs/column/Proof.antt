@@ -8,11 +8,11 @@ use mir.Facts.{toZ-ofZ}
 use borrow.Author.Needs.{needs}
 use Rattle.format.specs.Layout.{layout32, standard}
 use Rattle.format.specs.Key.{columnBounds}
-use Rattle.format.specs.Laws.Calls.Opened.{column-ranges, column-keys-ranges, column-values-ranges}
-use Rattle.format.specs.Laws.Calls.Opened.{column-uncertified, column-refused, column-keys-refused, column-values-refused}
+use Rattle.format.specs.Laws.Calls.Certified.{column-ranges, column-keys-ranges, column-values-ranges}
+use Rattle.format.specs.Laws.Calls.Certified.{column-uncertified, column-refused, column-keys-refused, column-values-refused}
 use Rattle.perimetry.specs.declared.column.Columns.{Columns}
 use Rattle.perimetry.specs.Answers.{columnsOf}
-use Rattle.fieldmap.specs.Told.{accepted-told, refused-told}
+use Rattle.fieldmap.proofs.Told.{accepted-told, refused-told}
 use Rattle.fieldmap.proofs.column.Statement.{statement}
 use Rattle.fieldmap.proofs.column.Tie as tie
 

@@ -2,9 +2,9 @@
 use mathlib.Core.Path.{sym, _∙_}
 use native.Mathlib.Omega.{arith}
 use Rattle.format.specs.Layout.{layout32, standard}
-use Rattle.format.specs.Laws.Calls.Opened.{room-for, node, lookup-refuses, lookup-none, lookup-gives}
+use Rattle.format.specs.Laws.Calls.Accepted.{room-for, node, lookup-refuses, lookup-none, lookup-gives}
 use borrow.Author.Needs.{needs}
-use Rattle.fieldmap.specs.Told.{accepted-told, refused-told, root-requires}
+use Rattle.fieldmap.proofs.Told.{accepted-told, refused-told, root-requires}
 use Rattle.fieldmap.proofs.lookup.Statement.{statement}
 use Rattle.fieldmap.proofs.lookup.Tie as tie
 

@@ -2,10 +2,10 @@
 use mathlib.Core.Path.{refl, sym, _∙_}
 use native.Mathlib.Omega.{arith}
 use Rattle.format.specs.Layout.{layout32, standard}
-use Rattle.format.specs.Laws.Calls.Opened.{room-for, node, bytes-refuses, bytes-none, bytes-gives, place-refuses, place-none, place-gives}
+use Rattle.format.specs.Laws.Calls.Accepted.{room-for, node, bytes-refuses, bytes-none, bytes-gives, place-refuses, place-none, place-gives}
 use Rattle.btree.proofs.Finds.{same-place}
 use borrow.Author.Needs.{needs}
-use Rattle.fieldmap.specs.Told.{accepted-told, refused-told, root-requires}
+use Rattle.fieldmap.proofs.Told.{accepted-told, refused-told, root-requires}
 use Rattle.fieldmap.proofs.lookup_bytes.Statement.{statement}
 use Rattle.fieldmap.proofs.lookup_bytes.Tie as tie
 

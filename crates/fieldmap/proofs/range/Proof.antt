@@ -2,10 +2,11 @@
 use mathlib.Core.Path.{sym}
 use native.Mathlib.Omega.{arith}
 use Rattle.format.specs.Layout.{layout32, standard}
-use Rattle.format.specs.Laws.Calls.Opened.{room-for, node, certified-accepts, ascending-root, range-refuses, range-keys-refuses, range-values-refuses}
-use Rattle.format.specs.Laws.Calls.Opened.{range-none, range-keys-none, range-values-none, range-gives, range-keys-gives, range-values-gives}
+use Rattle.format.specs.Laws.Calls.Accepted.{room-for, node}
+use Rattle.format.specs.Laws.Calls.Certified.{certified-accepts, ascending-root, range-refuses, range-keys-refuses, range-values-refuses}
+use Rattle.format.specs.Laws.Calls.Certified.{range-none, range-keys-none, range-values-none, range-gives, range-keys-gives, range-values-gives}
 use borrow.Author.Needs.{needs}
-use Rattle.fieldmap.specs.Told.{accepted-told, refused-told, root-requires}
+use Rattle.fieldmap.proofs.Told.{accepted-told, refused-told, root-requires}
 use Rattle.fieldmap.proofs.range.Statement.{statement}
 use Rattle.fieldmap.proofs.range.Tie as tie
 

@@ -2,10 +2,10 @@
 use mathlib.Core.Path.{sym}
 use native.Mathlib.Omega.{arith}
 use Rattle.format.specs.Layout.{layout32, standard}
-use Rattle.format.specs.Laws.Calls.Opened.{room-for, node, walk-refuses, walk-keys-refuses, walk-values-refuses}
-use Rattle.format.specs.Laws.Calls.Opened.{walk-none, walk-keys-none, walk-values-none, walk-gives, walk-keys-gives, walk-values-gives}
+use Rattle.format.specs.Laws.Calls.Accepted.{room-for, node, walk-refuses, walk-keys-refuses, walk-values-refuses}
+use Rattle.format.specs.Laws.Calls.Accepted.{walk-none, walk-keys-none, walk-values-none, walk-gives, walk-keys-gives, walk-values-gives}
 use borrow.Author.Needs.{needs}
-use Rattle.fieldmap.specs.Told.{accepted-told, refused-told, root-requires}
+use Rattle.fieldmap.proofs.Told.{accepted-told, refused-told, root-requires}
 use Rattle.fieldmap.proofs.walk.Statement.{statement}
 use Rattle.fieldmap.proofs.walk.Tie as tie
 

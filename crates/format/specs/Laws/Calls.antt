@@ -1,3 +1,2 @@
-pub mod Opened
-pub mod Refusals
-pub mod Numbers
+pub mod Accepted
+pub mod Certified

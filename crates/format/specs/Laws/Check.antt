@@ -1,9 +1,7 @@
-pub mod Valid
 pub mod Sound
 pub mod Complete
 pub mod Count
 pub mod Reach
 pub mod Archive
-pub mod Entered
 pub mod Refusals
 pub mod Depth

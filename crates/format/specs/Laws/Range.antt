@@ -1,4 +1,3 @@
 pub mod List
 pub mod Stack
 pub mod Iter
-pub mod Ranged

@@ -1,4 +1,3 @@
 pub mod Node
 pub mod Children
-pub mod Bounds
 pub mod Written

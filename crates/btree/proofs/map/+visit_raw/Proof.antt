@@ -8,10 +8,12 @@ use lib.ListN.{length}
 use Rattle.format.specs.Layout.{layout32, leafSize, standard, nested}
 use Rattle.format.specs.Node.{child}
 use Rattle.format.specs.Entries.{listAt, listChildren}
-use Rattle.format.specs.Laws.Read.Children.{onChild, childAt}
+use Rattle.format.specs.Readable.{childAt}
+use Rattle.format.specs.Written.{out, put, fill}
+use Rattle.format.specs.Laws.Read.Children.{onChild}
 use Rattle.format.specs.Laws.Read.Node.{as-leaf, as-inner, node-room, child-falls}
-use Rattle.format.specs.Laws.Read.Written.{out, put, fill, runs-none}
-use Rattle.btree.specs.NextChild.{next-child}
+use Rattle.format.specs.Laws.Read.Written.{runs-none}
+use Rattle.btree.proofs.NextChild.{next-child}
 use Rattle.btree.proofs.Fills.{full-kept}
 use Rattle.btree.proofs.Runs.{child-run, child-skipped, inner-step, inner-done, leaf-run}
 use borrow.Author.Needs.{needs}

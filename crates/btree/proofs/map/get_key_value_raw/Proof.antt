@@ -5,7 +5,8 @@ use native.Mathlib.Omega.{arith}
 use lib.ListN.{length}
 use Rattle.format.specs.Layout.{layout32, leafSize, standard, nested}
 use Rattle.format.specs.Lookup.{lookupAt}
-use Rattle.format.specs.Laws.Read.Node.{Node, node-room, as-inner, child-falls}
+use Rattle.format.specs.Readable.{Node}
+use Rattle.format.specs.Laws.Read.Node.{node-room, as-inner, child-falls}
 use Rattle.btree.proofs.Finds.{seek-slot, seek-child, leaf-count, leaf-slot, leaf-hit, leaf-miss, inner-hit, inner-miss, inner-down}
 use borrow.Author.Needs.{needs}
 use Rattle.btree.proofs.map.get_key_value_raw.Statement.{statement}

@@ -1,6 +1,6 @@
 -- `btree::map::visit_leaf` meets its contract. Assumes nothing.
 use Rattle.btree.proofs.Runs.{leaf-step, leaf-done}
-use Rattle.format.specs.Laws.Read.Written.{out, fill}
+use Rattle.format.specs.Written.{out, fill}
 use Rattle.format.specs.Layout.{layout32}
 use Rattle.format.specs.Entries.{slots}
 use lib.ListN.{length}

@@ -7,7 +7,8 @@ use denote.Ref.{now}
 use Rattle.format.specs.Bytes.{put}
 use Rattle.builder.specs.Size.{endOf}
 use Rattle.builder.proofs.Whole.{none-behind}
-use Rattle.builder.proofs.Refusals.{not-true, not-false, refuse-10, refuse-11, refuse-12, refuse-13, refuse-14, accepted}
+use borrow.Author.Tests.{not-true, not-false}
+use Rattle.builder.proofs.Refusals.{refuse-10, refuse-11, refuse-12, refuse-13, refuse-14, accepted}
 use borrow.Author.Needs.{needs}
 use Rattle.builder.proofs.build.build.Statement.{statement}
 use Rattle.builder.proofs.build.build.Tie as tie

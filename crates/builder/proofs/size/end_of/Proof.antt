@@ -1,5 +1,5 @@
 -- `builder::size::end_of` meets its contract. Assumes nothing.
-use Prim.Native.Nat.{_-_, _≤_}
+use Prim.Native.Nat.{_-_}
 use native.Mathlib.Omega.{arith}
 use lib.Dec.{lit≤}
 use Rattle.builder.proofs.Weights.{weight-small}

@@ -3,7 +3,7 @@ use mir.Syntax.{w8}
 use mir.Facts.{toZ-ofZ}
 use mathlib.Core.Path.{refl, _∙_, ap}
 use borrow.Author.Needs.{needs, sfits-of}
-use Rattle.format.specs.Key.{KeyFields}
+use Rattle.format.specs.Key.{KeyParts}
 use Rattle.exports.proofs.key.fieldmap_unpack.Statement.{statement}
 use Rattle.exports.proofs.key.fieldmap_unpack.Tie as tie
 
@@ -14,10 +14,10 @@ returns c =
     let y = toZ-ofZ {w = w8} (sfits-of (c .struct-told2 .given .1 .1 .1 .0 .1)) in (
       refl,
       (
-        ap (λ (f : KeyFields). f .examination) e,
+        ap (λ (f : KeyParts). f .examination) e,
         (
-          ap (λ (f : KeyFields). f .eye) e,
-          (x ∙ ap (λ (f : KeyFields). f .x) e, (y ∙ ap (λ (f : KeyFields). f .y) e, ap (λ (f : KeyFields). f .presentation) e)),
+          ap (λ (f : KeyParts). f .eye) e,
+          (x ∙ ap (λ (f : KeyParts). f .x) e, (y ∙ ap (λ (f : KeyParts). f .y) e, ap (λ (f : KeyParts). f .presentation) e)),
         ),
       ),
     )

@@ -3,8 +3,8 @@ use Prim.Native.Nat.{ℕ, _*_, _<_, _^_}
 use mathlib.Core.Path.{refl, sym}
 use native.Mathlib.Omega.{arith}
 use Rattle.format.specs.Layout.{layout32, standard}
-use Rattle.format.specs.Laws.Calls.Opened.{room-for, node}
-use Rattle.fieldmap.specs.Told.{accepted-told, refused-told, root-requires}
+use Rattle.format.specs.Laws.Calls.Accepted.{room-for, node}
+use Rattle.fieldmap.proofs.Told.{accepted-told, refused-told, root-requires}
 use lib.ListN.{length}
 use borrow.Author.Needs.{needs}
 use Rattle.exports.proofs.Given.{answers-given, answers-refused, returned}

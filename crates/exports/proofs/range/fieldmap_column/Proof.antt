@@ -4,7 +4,7 @@ use mathlib.Core.Path.{_∙_, sym, ap}
 use native.Mathlib.Omega.{arith}
 use borrow.Author.Needs.{needs}
 use Rattle.format.specs.Layout.{layout32, standard}
-use Rattle.format.specs.Laws.Calls.Numbers.{column-fits}
+use Rattle.exports.proofs.Numbers.{column-fits}
 use Rattle.fieldmap.specs.Answers.{rangeOf}
 use Rattle.exports.specs.Answers.{rangeWritten, rangeMatching}
 use Rattle.exports.proofs.Given.{answers-given, answers-refused, returned, store-given, store-refused}

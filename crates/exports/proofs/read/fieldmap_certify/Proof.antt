@@ -4,8 +4,8 @@ use mathlib.Core.Path.{_∙_, sym, ap}
 use native.Mathlib.Omega.{arith}
 use borrow.Author.Needs.{needs}
 use Rattle.format.specs.Layout.{layout32, standard}
-use Rattle.format.specs.Laws.Calls.Numbers.{count-fits}
-use Rattle.format.specs.Laws.Calls.Opened.{certified-accepts}
+use Rattle.exports.proofs.Numbers.{count-fits}
+use Rattle.format.specs.Laws.Calls.Certified.{certified-accepts}
 use Rattle.exports.specs.Answers.{coded}
 use Rattle.exports.proofs.Given.{told-counted, returned}
 use Rattle.exports.proofs.read.fieldmap_certify.Statement.{statement}

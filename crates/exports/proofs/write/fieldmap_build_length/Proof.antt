@@ -4,7 +4,7 @@ use mathlib.Core.Path.{_∙_, sym, ap}
 use native.Mathlib.Omega.{arith}
 use borrow.Author.Needs.{needs}
 use Rattle.format.specs.Layout.{standard}
-use Rattle.format.specs.Laws.Calls.Numbers.{length-fits}
+use Rattle.exports.proofs.Numbers.{length-fits}
 use Rattle.builder.specs.Answers.{builtOf}
 use Rattle.exports.proofs.Given.{code-given, code-refused, told-given, told-refused, returned}
 use Rattle.exports.proofs.write.fieldmap_build_length.Statement.{statement}

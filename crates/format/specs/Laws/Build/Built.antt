@@ -3,14 +3,13 @@
 use Prim.Native.Nat.{ℕ, suc, _+_, _-_, _*_, _^_, _%_, _≤_, _<_}
 use mathlib.Core.Path.{_≡_, refl, sym, ap, _∙_, subst}
 use mathlib.Core.Bool.{Bool, true, false, not}
-use mathlib.Core.List.{List, [], _∷_, _++_, map, append-assoc, append-nil}
+use mathlib.Core.List.{List, [], _∷_, _++_, append-assoc, append-nil}
 use native.Mathlib.Omega.{arith}
 use native.Mathlib.Nat.{add-zero}
 use lib.ListN.{length, replicate, length-append, length-replicate}
 use lib.Dec.{ltb}
 use borrow.Author.Tests.{le-leb, lt-ltb, eq-eqb}
 use Rattle.format.specs.declared.Entry.{Entry}
-use Rattle.format.specs.declared.Child.the-variants.{At, Absent}
 use Rattle.format.specs.Layout.{Width, two, four, eight, bytes, Layout, pointer, recordSize, recordAlign, Limits, nested}
 use Rattle.format.specs.Bytes.{leBytes}
 use Rattle.format.specs.RelPtr.{at, target}
@@ -19,26 +18,25 @@ use Rattle.format.specs.Node.{sizeAt}
 use Rattle.format.specs.Check.{accepted, root, recorded, checkRoot, checkArchive}
 use Rattle.format.specs.Entries.{listAt, list}
 use Rattle.format.specs.Certify.{ascendsFrom, ascends, hollowAt, hollowOf, certify}
-use Rattle.format.specs.Tree.{Pair, offsetBytes, Tree, Branch, noneB, someB, lengthT, lengthBranch, topT, childOf, writeBranch}
+use Rattle.format.specs.Tree.{offsetBytes, Tree, Branch, noneB, someB, lengthT, lengthBranch, topT, childOf, writeBranch, KeyValue}
 use Rattle.format.specs.Build.{fill, height, lastLevel, treeOf, firstAlign, start, behind, archive, risesFrom, rises}
+use Rattle.format.specs.TreeShape.{pairsOf, keysOf, flat, flatBranch, depthT, depthBranch, AllFit, There, WfT, WfBranch}
+use Rattle.format.specs.NodeRelation.{Holds, Valid}
 use Rattle.format.specs.Laws.Numbers.Align.{step-aligned}
 use Rattle.format.specs.Laws.Numbers.Bytes.{length-leBytes}
 use Rattle.format.specs.Laws.Check.Complete.{pass, complete}
 use Rattle.format.specs.Laws.Build.Filling.{fill-flat, upper, room, fill-took, BranchDone, fill-done, fill-depth}
 use Rattle.format.specs.Laws.Build.Height.{Fitting, fitting}
-use Rattle.format.specs.Laws.Build.Laid.{length-offset, length-writeBranch, eightT, top-in, tree-laid}
-use Rattle.format.specs.Laws.Build.Stands.{Stands, stands-here, stands-end, stands-as, read-back, wide, offset-back}
-use Rattle.format.specs.Laws.Build.Trees.{pairsOf, flat, flatBranch, depthT, depthBranch, AllFit, There, WfT, WfBranch}
-use Rattle.format.specs.Laws.Check.Valid.{Holds, Valid}
-
-abbrev pub keysOf : List Pair → List ℕ
-keysOf = map (λ (e : Pair). e .key)
+use Rattle.format.specs.Laws.Build.ReadBack.{tree-laid}
+use Rattle.format.specs.Laws.Build.NodeBytes.{length-offset, length-writeBranch, eightT, top-in}
+use Rattle.format.specs.Laws.Build.BytesAt.{BytesAt, stands-here, stands-end, stands-as, read-back, wide, offset-back}
 
 rises-from : (k : ℕ) (l : List Entry) → ascendsFrom k l ≡ risesFrom k (keysOf (pairsOf l))
 rises-from k [] = refl
 rises-from k (x ∷ l) = by (ltb k (x .key)) refl (rises-from (x .key) l)
   where
-    by : (b : Bool) → ltb k (x .key) ≡ b → ascendsFrom (x .key) l ≡ risesFrom (x .key) (keysOf (pairsOf l)) → ascendsFrom k (x ∷ l) ≡ risesFrom k (keysOf (pairsOf (x ∷ l)))
+    by : (b : Bool) → ltb k (x .key) ≡ b → ascendsFrom (x .key) l ≡ risesFrom (x .key) (keysOf (pairsOf l))
+        → ascendsFrom k (x ∷ l) ≡ risesFrom k (keysOf (pairsOf (x ∷ l)))
     by true eb ih = rw (eb, ascendsFrom, risesFrom) ih
     by false eb ih = rw (eb, ascendsFrom, risesFrom)
 
@@ -58,10 +56,11 @@ module _ (L : Layout) (M : Limits) (s : List ℕ) where
 
   recorded-passes : Recorded → checkArchive L M s ≡ checkRoot L M s (recorded L s)
   unfolding checkArchive
-  recorded-passes R = pass (le-leb _ _ (R .small)) _ _ ∙ pass (le-leb _ _ (R .fits)) _ _ ∙ pass (eq-eqb _ _ (R .aligned)) _ _ ∙ pass (lt-ltb _ _ (R .enters)) _ _
+  recorded-passes R =
+      pass (le-leb _ _ (R .small)) _ _ ∙ pass (le-leb _ _ (R .fits)) _ _ ∙ pass (eq-eqb _ _ (R .aligned)) _ _ ∙ pass (lt-ltb _ _ (R .enters)) _ _
 
   -- With a root that holds n + 1 entries.
-  record Sure (n : ℕ) (es : List Pair) : Type 0 where
+  record Sure (n : ℕ) (es : List KeyValue) : Type 0 where
     recorded-ok : Recorded
     count : recorded L s ≡ suc n
     pos : ℕ
@@ -71,11 +70,11 @@ module _ (L : Layout) (M : Limits) (s : List ℕ) where
     gives : pairsOf (listAt L s (nested M) pos) ≡ es
     asc : rises (keysOf es) ≡ true
 
-  sure-list : {n : ℕ} {es : List Pair} (S : Sure n es) → list L M s ≡ listAt L s (nested M) (S .pos)
+  sure-list : {n : ℕ} {es : List KeyValue} (S : Sure n es) → list L M s ≡ listAt L s (nested M) (S .pos)
   unfolding list
   sure-list S = rw (S .count, S .leads)
 
-  sure : (n : ℕ) (es : List Pair) (S : Sure n es) → certify L M s ≡ accepted (suc n) (S .pos + sizeAt L s (S .pos))
+  sure : (n : ℕ) (es : List KeyValue) (S : Sure n es) → certify L M s ≡ accepted (suc n) (S .pos + sizeAt L s (S .pos))
   unfolding certify checkRoot
   sure n es S =
       let ea : checkArchive L M s ≡ accepted (suc n) (S .pos + sizeAt L s (S .pos)) =
@@ -145,17 +144,18 @@ module _ (L : Layout) where
     length-s : WfBranch L b → length s ≡ p + lengthBranch L b + pointer L + pointer L
     length-s w = ap length s-parts ∙ simp length-append (omega (arith, length-fp, length-W w, length-R, length-C))
 
-    tree-stands : Stands s p W
+    tree-stands : BytesAt s p W
     tree-stands = stands-as (sym s-parts) length-fp (stands-here fp W (R ++ C))
 
-    root-stands : WfBranch L b → Stands s (p + lengthBranch L b) R
+    root-stands : WfBranch L b → BytesAt s (p + lengthBranch L b) R
     root-stands w =
         stands-as (append-assoc fp W (R ++ C) ∙ sym s-parts) (length-append fp W ∙ omega (arith, length-fp, length-W w)) (stands-here (fp ++ W) R C)
 
-    count-stands : WfBranch L b → Stands s (p + lengthBranch L b + pointer L) C
+    count-stands : WfBranch L b → BytesAt s (p + lengthBranch L b + pointer L) C
     count-stands w =
         stands-as (append-assoc (fp ++ W) R C ∙ append-assoc fp W (R ++ C) ∙ sym s-parts)
-        (length-append (fp ++ W) R ∙ ap (λ (x : ℕ). x + length R) (length-append fp W) ∙ omega (arith, length-fp, length-W w, length-R)) (stands-end ((fp ++ W) ++ R) C)
+        (length-append (fp ++ W) R ∙ ap (λ (x : ℕ). x + length R) (length-append fp W) ∙ omega (arith, length-fp, length-W w, length-R))
+        (stands-end ((fp ++ W) ++ R) C)
 
     root-is : WfBranch L b → root L s ≡ p + lengthBranch L b
     unfolding root
@@ -173,8 +173,10 @@ module _ (L : Layout) where
 
 module _ (L : Layout) (M : Limits) (front : List ℕ) where
   -- The archive of a tree that the layout can hold.
-  tree-sure : (t : Tree) (n : ℕ) → 1 < M .depth → 0 < L .entries → L .entries < 65536 → WfT L t → depthT t ≤ nested M → length (flat t) ≡ suc n → suc n < 256 ^ pointer L
-      → rises (keysOf (flat t)) ≡ true → 2 * lengthT L t ≤ 256 ^ pointer L → M .longest < 2 ^ 63 → length (s L front (someB t) (suc n)) ≤ M .longest → Sure L M (s L front (someB t) (suc n)) n (flat t)
+  tree-sure : (t : Tree) (n : ℕ) → 1 < M .depth → 0 < L .entries → L .entries < 65536 → WfT L t → depthT t ≤ nested M → length (flat t) ≡ suc n
+      → suc n < 256 ^ pointer L
+      → rises (keysOf (flat t)) ≡ true → 2 * lengthT L t ≤ 256 ^ pointer L → M .longest < 2 ^ 63 → length (s L front (someB t) (suc n)) ≤ M .longest
+      → Sure L M (s L front (someB t) (suc n)) n (flat t)
   unfolding p W R
   tree-sure t n deep some few w hd hn hw ha far short small =
       let b = someB t in
@@ -184,10 +186,17 @@ module _ (L : Layout) (M : Limits) (front : List ℕ) where
       let e8 = eightT L t in
       let h8 : q % 8 ≡ 0 = step-aligned 8 (length front) (omega arith) in
       let i = top-in L t q in
-      let T = tree-laid L a t (nested M) q 0 (root L a) few w hd (omega arith) (omega arith) h8 (omega (arith, length-s L front b (suc n) w)) (tree-stands L front b (suc n)) in
+      let T = tree-laid L a t (nested M) q 0 (root L a) few w hd (omega arith) (omega arith) h8 (omega (arith, length-s L front b (suc n) w))
+      (tree-stands L front b (suc n)) in
       let (et, ea) = offset-back L a (q + lengthT L t) (record { 0 = topT L t q }) (omega arith) (omega arith) (root-stands L front b (suc n) w) in
       record {
-        recorded-ok = record { small = small; fits = omega (arith, length-s L front b (suc n) w); aligned = pointer-divides (L .width) (root L a) (omega arith); enters = deep };
+        recorded-ok =
+            record {
+              small = small;
+              fits = omega (arith, length-s L front b (suc n) w);
+              aligned = pointer-divides (L .width) (root L a) (omega arith);
+              enters = deep;
+            };
         count = recorded-is L front b (suc n) w hw;
         pos = topT L t q;
         leads = rw er et;
@@ -198,17 +207,19 @@ module _ (L : Layout) (M : Limits) (front : List ℕ) where
       }
 
   -- An archive that certify accepts with the given number of entries, and whose list has them.
-  pub record Built (es : List Pair) : Type 0 where
+  pub record Built (es : List KeyValue) : Type 0 where
     pub stop : ℕ
     pub certified : certify L M (archive L front es) ≡ accepted (length es) stop
     pub gives : pairsOf (list L M (archive L front es)) ≡ es
 
-  branch-sure : (b : Branch) (es : List Pair) (n : ℕ) → There b → 1 < M .depth → 0 < L .entries → L .entries < 65536 → WfBranch L b → depthBranch b ≤ nested M → flatBranch b ≡ es
-      → length es ≡ suc n → suc n < 256 ^ pointer L → rises (keysOf es) ≡ true → 2 * lengthBranch L b ≤ 256 ^ pointer L → M .longest < 2 ^ 63 → length (s L front b (suc n)) ≤ M .longest → Sure L M (s L front b (suc n)) n es
+  branch-sure : (b : Branch) (es : List KeyValue) (n : ℕ) → There b → 1 < M .depth → 0 < L .entries → L .entries < 65536 → WfBranch L b
+      → depthBranch b ≤ nested M → flatBranch b ≡ es
+      → length es ≡ suc n → suc n < 256 ^ pointer L → rises (keysOf es) ≡ true → 2 * lengthBranch L b ≤ 256 ^ pointer L → M .longest < 2 ^ 63
+      → length (s L front b (suc n)) ≤ M .longest → Sure L M (s L front b (suc n)) n es
   branch-sure noneB es n th deep some few w hd ef hn hw ha far short small = absurd th
   branch-sure (someB t) es n th deep some few w hd ef hn hw ha far short small =
-      subst (λ (x : List Pair). Sure L M (s L front (someB t) (suc n)) n x) ef
-      (tree-sure t n deep some few w hd (ap length ef ∙ hn) hw (ap (λ (l : List Pair). rises (keysOf l)) ef ∙ ha) far short small)
+      subst (λ (x : List KeyValue). Sure L M (s L front (someB t) (suc n)) n x) ef
+      (tree-sure t n deep some few w hd (ap length ef ∙ hn) hw (ap (λ (l : List KeyValue). rises (keysOf l)) ef ∙ ha) far short small)
 
   -- No entries.
   pub built-none : 1 < M .depth → length (archive L front []) ≤ M .longest → Built []
@@ -223,25 +234,26 @@ module _ (L : Layout) (M : Limits) (front : List ℕ) where
       let (ec, el) = sure-empty L M a R (recorded-is L front noneB 0 tt (omega arith)) in
       record { stop = 0; certified = ec; gives = ap pairsOf el }
 
-nil-of : (l : List Pair) → length l ≡ 0 → l ≡ []
+nil-of : (l : List KeyValue) → length l ≡ 0 → l ≡ []
 nil-of [] e = refl
 nil-of (x ∷ l) e = absurd (omega arith)
 
 -- What the tree of one entry or more is.
-pub record TreeOf (L : Layout) (es : List Pair) : Type 0 where
+pub record TreeOf (L : Layout) (es : List KeyValue) : Type 0 where
   pub some : 0 < L .entries
   pub fit : Fitting L some (length es)
   pub done : BranchDone L (fit .above) (upper L (fit .above)) (room L (fit .above)) (lastLevel L (length es)) (fill L (fit .above) (lastLevel L (length es)) es)
   pub is : treeOf L es ≡ fill L (fit .above) (lastLevel L (length es)) es .branch
 
 module _ (L : Layout) where
-  pub tree-is : (e : Pair) (es : List Pair) (h : ℕ) → height L (length (e ∷ es)) ≡ suc h → treeOf L (e ∷ es) ≡ fill L h (lastLevel L (length (e ∷ es))) (e ∷ es) .branch
+  pub tree-is : (e : KeyValue) (es : List KeyValue) (h : ℕ) → height L (length (e ∷ es)) ≡ suc h
+      → treeOf L (e ∷ es) ≡ fill L h (lastLevel L (length (e ∷ es))) (e ∷ es) .branch
   unfolding treeOf
   tree-is e es h eh =
       let e₁ : height L (length (e ∷ es)) - 1 ≡ h = omega arith in
       ap (λ (x : ℕ). fill L x (lastLevel L (length (e ∷ es))) (e ∷ es) .branch) e₁
 
-  pub tree-of : (e : Pair) (es : List Pair) → 0 < L .entries → AllFit (e ∷ es) → TreeOf L (e ∷ es)
+  pub tree-of : (e : KeyValue) (es : List KeyValue) → 0 < L .entries → AllFit (e ∷ es) → TreeOf L (e ∷ es)
   tree-of e es some fit =
       let F = fitting L some (length (e ∷ es)) (omega arith) in
       record {
@@ -252,24 +264,27 @@ module _ (L : Layout) where
       }
 
   -- No entry is left.
-  pub none-left : {some : 0 < L .entries} (es : List Pair) (F : Fitting L some (length es)) → fill L (F .above) (lastLevel L (length es)) es .rest ≡ []
+  pub none-left : {some : 0 < L .entries} (es : List KeyValue) (F : Fitting L some (length es)) → fill L (F .above) (lastLevel L (length es)) es .rest ≡ []
   none-left es F =
       let t = fill-took L (F .above) (lastLevel L (length es)) es (omega (arith, F .last-is, F .last-room)) in
       nil-of _ (omega (arith, t .left, F .last-is, F .last-room))
 
-  tree-flat : {es : List Pair} (T : TreeOf L es) → flatBranch (treeOf L es) ≡ es
+  tree-flat : {es : List KeyValue} (T : TreeOf L es) → flatBranch (treeOf L es) ≡ es
   tree-flat {es} T =
       let m = lastLevel L (length es) in
       let h = T .fit .above in
-      ap flatBranch (T .is) ∙ sym (append-nil (flatBranch (fill L h m es .branch))) ∙ ap (λ (l : List Pair). flatBranch (fill L h m es .branch) ++ l) (sym (none-left es (T .fit))) ∙ fill-flat L h m es
+      ap flatBranch (T .is) ∙ sym (append-nil (flatBranch (fill L h m es .branch)))
+      ∙ ap (λ (l : List KeyValue). flatBranch (fill L h m es .branch) ++ l) (sym (none-left es (T .fit))) ∙ fill-flat L h m es
 
-  pub tree-wf : {es : List Pair} (T : TreeOf L es) → WfBranch L (treeOf L es) × There (treeOf L es)
+  pub tree-wf : {es : List KeyValue} (T : TreeOf L es) → WfBranch L (treeOf L es) × There (treeOf L es)
   tree-wf {es} T =
       subst (λ (b : Branch). WfBranch L b × There b) (sym (T .is)) (T .done .wf, T .done .starts (omega (arith, T .fit .last-pos)))
 
   -- One entry or more.
-  pub built-some : (M : Limits) (front : List ℕ) (e : Pair) (es : List Pair) (T : TreeOf L (e ∷ es)) → 1 < M .depth → L .entries < 65536 → rises (keysOf (e ∷ es)) ≡ true
-      → height L (length (e ∷ es)) ≤ nested M → length (e ∷ es) < 256 ^ pointer L → 2 * lengthBranch L (treeOf L (e ∷ es)) ≤ 256 ^ pointer L → M .longest < 2 ^ 63
+  pub built-some : (M : Limits) (front : List ℕ) (e : KeyValue) (es : List KeyValue) (T : TreeOf L (e ∷ es)) → 1 < M .depth → L .entries < 65536
+      → rises (keysOf (e ∷ es)) ≡ true
+      → height L (length (e ∷ es)) ≤ nested M → length (e ∷ es) < 256 ^ pointer L → 2 * lengthBranch L (treeOf L (e ∷ es)) ≤ 256 ^ pointer L
+      → M .longest < 2 ^ 63
       → length (archive L front (e ∷ es)) ≤ M .longest → Built L M front (e ∷ es)
   unfolding archive s
   built-some M front e es T deep few asc hd hw far short small =
@@ -278,5 +293,6 @@ module _ (L : Layout) where
       let m = lastLevel L (length all) in
       let dp = fill-depth L (T .fit .above) m all in
       let ed : depthBranch (treeOf L all) ≡ depthBranch (fill L (T .fit .above) m all .branch) = ap depthBranch (T .is) in
-      let S = branch-sure L M front (treeOf L all) all (length es) there-is deep (T .some) few wf (omega (arith, T .fit .height-is)) (tree-flat T) refl hw asc far short small in
+      let S = branch-sure L M front (treeOf L all) all (length es) there-is deep (T .some) few wf (omega (arith, T .fit .height-is))
+      (tree-flat T) refl hw asc far short small in
       record { stop = _; certified = sure L M (archive L front all) (length es) all S; gives = ap pairsOf (sure-list L M (archive L front all) S) ∙ S .gives }

@@ -6,25 +6,26 @@ use native.Mathlib.Omega.{arith}
 use native.Mathlib.Decide.{decLt}
 use lib.ListN.{length, take, drop, take-append-drop, length-take, length-drop}
 use Rattle.format.specs.Layout.{Layout}
-use Rattle.format.specs.Tree.{Pair}
+use Rattle.format.specs.Tree.{KeyValue}
 use Rattle.format.specs.Build.{Filled, FilledBranches, closed, fillNext, fillBranches, fillLeaf, fill}
-use Rattle.format.specs.Laws.Build.Trees.{flatBranches, flatBranch, depthBranches, depthBranch, nodesBranches, nodesBranch, own, AllFit, There, Begins, WfBranches, WfBranch}
+use Rattle.format.specs.TreeShape.{flatBranches, flatBranch, depthBranches, depthBranch, nodesBranches, nodesBranch, own, AllFit, There, Begins}
+use Rattle.format.specs.TreeShape.{WfBranches, WfBranch}
 
 -- ---- the entries, in order
 
-next-flat : (go : ℕ → List Pair → FilledBranches) → ((m : ℕ) (es : List Pair) → flatBranches (go m es .branches) ++ go m es .rest ≡ es)
-    → (c : Filled) (es : List Pair) → flatBranches (fillNext go c es .branches) ++ fillNext go c es .rest ≡ flatBranch (c .branch) ++ es
+next-flat : (go : ℕ → List KeyValue → FilledBranches) → ((m : ℕ) (es : List KeyValue) → flatBranches (go m es .branches) ++ go m es .rest ≡ es)
+    → (c : Filled) (es : List KeyValue) → flatBranches (fillNext go c es .branches) ++ fillNext go c es .rest ≡ flatBranch (c .branch) ++ es
 next-flat go ih c [] = refl
-next-flat go ih c (e ∷ es) = append-assoc (flatBranch (c .branch)) _ _ ∙ ap (λ (l : List Pair). flatBranch (c .branch) ++ (e ∷ l)) (ih (c .last) es)
+next-flat go ih c (e ∷ es) = append-assoc (flatBranch (c .branch)) _ _ ∙ ap (λ (l : List KeyValue). flatBranch (c .branch) ++ (e ∷ l)) (ih (c .last) es)
 
-module _ (give : ℕ → List Pair → Filled) (ih : (m : ℕ) (es : List Pair) → flatBranch (give m es .branch) ++ give m es .rest ≡ es) where
-  branches-flat : (n m : ℕ) (es : List Pair) → flatBranches (fillBranches give n m es .branches) ++ fillBranches give n m es .rest ≡ es
+module _ (give : ℕ → List KeyValue → Filled) (ih : (m : ℕ) (es : List KeyValue) → flatBranch (give m es .branch) ++ give m es .rest ≡ es) where
+  branches-flat : (n m : ℕ) (es : List KeyValue) → flatBranches (fillBranches give n m es .branches) ++ fillBranches give n m es .rest ≡ es
   branches-flat zero m es = ih m es
   branches-flat (suc n) m es = next-flat (fillBranches give n) (branches-flat n) (give m es) (give m es .rest) ∙ ih m es
 
 module _ (L : Layout) where
   -- The tree's entries and those that are left are the given ones.
-  pub fill-flat : (h m : ℕ) (es : List Pair) → flatBranch (fill L h m es .branch) ++ fill L h m es .rest ≡ es
+  pub fill-flat : (h m : ℕ) (es : List KeyValue) → flatBranch (fill L h m es .branch) ++ fill L h m es .rest ≡ es
   unfolding fill
   fill-flat zero zero es = refl
   fill-flat zero (suc m) es = take-append-drop (min (suc m) (L .entries)) es
@@ -48,20 +49,20 @@ module _ (L : Layout) where
   full (suc h) = omega (arith, ap (λ (x : ℕ). suc (L .entries) * x) (full h))
 
   -- A subtree takes q entries and, of the m for the last level, at most c.
-  pub record Took (q c m : ℕ) (es : List Pair) (r : Filled) : Type 0 where
+  pub record Took (q c m : ℕ) (es : List KeyValue) (r : Filled) : Type 0 where
     pub left : length (r .rest) + (q + min m c) ≡ length es
     pub last : r .last + min m c ≡ m
 
   -- n entries of an inner node and n + 1 such children.
-  pub record TookAll (n q c m : ℕ) (es : List Pair) (r : FilledBranches) : Type 0 where
+  record TookAll (n q c m : ℕ) (es : List KeyValue) (r : FilledBranches) : Type 0 where
     pub left : length (r .rest) + (suc n * q + n + min m (suc n * c)) ≡ length es
     pub last : r .last + min m (suc n * c) ≡ m
 
-  module _ (give : ℕ → List Pair → Filled) (q c : ℕ) (took : (m : ℕ) (es : List Pair) → q + min m c ≤ length es → Took q c m es (give m es)) where
-    next-took : (n m : ℕ) (es : List Pair) (g : Filled) → Took q c m es g → (l : List Pair) → l ≡ g .rest
+  module _ (give : ℕ → List KeyValue → Filled) (q c : ℕ) (took : (m : ℕ) (es : List KeyValue) → q + min m c ≤ length es → Took q c m es (give m es)) where
+    next-took : (n m : ℕ) (es : List KeyValue) (g : Filled) → Took q c m es g → (l : List KeyValue) → l ≡ g .rest
         → suc (suc n) * q + suc n + min m (suc (suc n) * c) ≤ length es
-        → (go : ℕ → List Pair → FilledBranches)
-        → ((es : List Pair) → suc n * q + n + min (g .last) (suc n * c) ≤ length es → TookAll n q c (g .last) es (go (g .last) es))
+        → (go : ℕ → List KeyValue → FilledBranches)
+        → ((es : List KeyValue) → suc n * q + n + min (g .last) (suc n * c) ≤ length es → TookAll n q c (g .last) es (go (g .last) es))
         → TookAll (suc n) q c m es (fillNext go g l)
     next-took n m es g D [] e l go rec = absurd (omega (arith, D .left, ap length e))
     next-took n m es g D (x ∷ xs) e l go rec =
@@ -69,33 +70,35 @@ module _ (L : Layout) where
         let r = rec xs (omega (arith, D .left, D .last, el)) in
         record { left = omega (arith, r .left, D .left, D .last, el); last = omega (arith, r .last, D .last) }
 
-    pub branches-took : (n m : ℕ) (es : List Pair) → suc n * q + n + min m (suc n * c) ≤ length es → TookAll n q c m es (fillBranches give n m es)
+    branches-took : (n m : ℕ) (es : List KeyValue) → suc n * q + n + min m (suc n * c) ≤ length es → TookAll n q c m es (fillBranches give n m es)
     branches-took zero m es l = let r = took m es (omega arith) in record { left = omega (arith, r .left); last = omega (arith, r .last) }
     branches-took (suc n) m es l =
         next-took n m es (give m es) (took m es (omega arith)) (give m es .rest) refl l (fillBranches give n) (branches-took n (give m es .last))
 
-  inner-took : (q c m : ℕ) (es : List Pair) (r : FilledBranches) → TookAll (L .entries) q c m es r → Took (suc (L .entries) * q + L .entries) (suc (L .entries) * c) m es (closed r)
+  inner-took : (q c m : ℕ) (es : List KeyValue) (r : FilledBranches) → TookAll (L .entries) q c m es r
+      → Took (suc (L .entries) * q + L .entries) (suc (L .entries) * c) m es (closed r)
   inner-took q c m es r t = record { left = t .left; last = t .last }
 
-  pub fill-took : (h m : ℕ) (es : List Pair) → upper h + min m (room h) ≤ length es → Took (upper h) (room h) m es (fill L h m es)
+  pub fill-took : (h m : ℕ) (es : List KeyValue) → upper h + min m (room h) ≤ length es → Took (upper h) (room h) m es (fill L h m es)
   unfolding fill
   fill-took zero zero es l = record { left = omega arith; last = omega arith }
   fill-took zero (suc m) es l = record { left = simp length-drop (omega arith); last = omega arith }
   fill-took (suc zero) zero es l = record { left = simp length-drop (omega arith); last = omega arith }
   fill-took (suc zero) (suc m) es l =
-      inner-took (upper 0) (room 0) (suc m) es (fillBranches (fill L zero) (L .entries) (suc m) es) (branches-took (fill L zero) (upper 0) (room 0) (fill-took zero) (L .entries) (suc m) es l)
+      inner-took (upper 0) (room 0) (suc m) es (fillBranches (fill L zero) (L .entries) (suc m) es)
+      (branches-took (fill L zero) (upper 0) (room 0) (fill-took zero) (L .entries) (suc m) es l)
   fill-took (suc (suc h)) m es l =
       inner-took (upper (suc h)) (room (suc h)) m es (fillBranches (fill L (suc h)) (L .entries) m es)
       (branches-took (fill L (suc h)) (upper (suc h)) (room (suc h)) (fill-took (suc h)) (L .entries) m es l)
 
   -- ---- what the subtree is
 
-  fit-take : (n : ℕ) (es : List Pair) → AllFit es → AllFit (take n es)
+  fit-take : (n : ℕ) (es : List KeyValue) → AllFit es → AllFit (take n es)
   fit-take zero es f = tt
   fit-take (suc n) [] f = tt
   fit-take (suc n) (e ∷ es) f = (f .0, fit-take n es (f .1))
 
-  fit-drop : (n : ℕ) (es : List Pair) → AllFit es → AllFit (drop n es)
+  fit-drop : (n : ℕ) (es : List KeyValue) → AllFit es → AllFit (drop n es)
   fit-drop zero es f = f
   fit-drop (suc n) [] f = tt
   fit-drop (suc n) (e ∷ es) f = fit-drop n es (f .1)
@@ -125,7 +128,7 @@ module _ (L : Layout) where
     pub part : Part m c empty
     pub nodes : L .entries * nodesBranch (r .branch) ≤ q + min m c + empty
 
-  pub record BranchesDone (h n q c m : ℕ) (r : FilledBranches) : Type 0 where
+  record BranchesDone (h n q c m : ℕ) (r : FilledBranches) : Type 0 where
     pub wf : WfBranches L (r .branches)
     pub starts : 0 < m + h → Begins (r .branches)
     pub count : length (own (r .branches)) ≡ n
@@ -134,12 +137,12 @@ module _ (L : Layout) where
     pub part : Part m (suc n * c) empty
     pub nodes : L .entries * nodesBranches (r .branches) ≤ suc n * q + min m (suc n * c) + empty
 
-  module _ (give : ℕ → List Pair → Filled) (h q c : ℕ) (took : (m : ℕ) (es : List Pair) → q + min m c ≤ length es → Took q c m es (give m es))
-      (ih : (m : ℕ) (es : List Pair) → AllFit es → q + min m c ≤ length es → BranchDone h q c m (give m es)) where
-    next-done : (n m : ℕ) (es : List Pair) (g : Filled) → Took q c m es g → BranchDone h q c m g → (l : List Pair) → l ≡ g .rest
+  module _ (give : ℕ → List KeyValue → Filled) (h q c : ℕ) (took : (m : ℕ) (es : List KeyValue) → q + min m c ≤ length es → Took q c m es (give m es))
+      (ih : (m : ℕ) (es : List KeyValue) → AllFit es → q + min m c ≤ length es → BranchDone h q c m (give m es)) where
+    next-done : (n m : ℕ) (es : List KeyValue) (g : Filled) → Took q c m es g → BranchDone h q c m g → (l : List KeyValue) → l ≡ g .rest
         → suc (suc n) * q + suc n + min m (suc (suc n) * c) ≤ length es
-        → (go : ℕ → List Pair → FilledBranches)
-        → ((es : List Pair) → AllFit es → suc n * q + n + min (g .last) (suc n * c) ≤ length es → BranchesDone h n q c (g .last) (go (g .last) es))
+        → (go : ℕ → List KeyValue → FilledBranches)
+        → ((es : List KeyValue) → AllFit es → suc n * q + n + min (g .last) (suc n * c) ≤ length es → BranchesDone h n q c (g .last) (go (g .last) es))
         → BranchesDone h (suc n) q c m (fillNext go g l)
     next-done n m es g T D [] e l go rec = absurd (omega (arith, T .left, ap length e))
     next-done n m es g T D (x ∷ xs) e l go rec =
@@ -155,7 +158,8 @@ module _ (L : Layout) where
           nodes = omega (arith, D .nodes, r .nodes, T .last);
         }
 
-    branches-done : (n m : ℕ) (es : List Pair) → AllFit es → suc n * q + n + min m (suc n * c) ≤ length es → BranchesDone h n q c m (fillBranches give n m es)
+    branches-done : (n m : ℕ) (es : List KeyValue) → AllFit es → suc n * q + n + min m (suc n * c) ≤ length es
+        → BranchesDone h n q c m (fillBranches give n m es)
     branches-done zero m es f l =
         let r = ih m es f (omega arith) in
         record {
@@ -168,18 +172,21 @@ module _ (L : Layout) where
           nodes = omega (arith, r .nodes);
         }
     branches-done (suc n) m es f l =
-        next-done n m es (give m es) (took m es (omega arith)) (ih m es f (omega arith)) (give m es .rest) refl l (fillBranches give n) (branches-done n (give m es .last))
+        next-done n m es (give m es) (took m es (omega arith)) (ih m es f (omega arith)) (give m es .rest) refl l (fillBranches give n)
+        (branches-done n (give m es .last))
 
   leaf-part : (m : ℕ) → 0 < m → Part m (L .entries) (L .entries - m)
   leaf-part m h = elim (decLt m (L .entries)) [ yes l ↦ partial h l (omega arith) | no g ↦ whole (omega arith) ]
 
   -- A node over children of h levels.
-  inner-done : (h q c m : ℕ) (r : FilledBranches) → 0 < m + h → BranchesDone h (L .entries) q c m r → BranchDone (suc h) (suc (L .entries) * q + L .entries) (suc (L .entries) * c) m (closed r)
+  inner-done : (h q c m : ℕ) (r : FilledBranches) → 0 < m + h → BranchesDone h (L .entries) q c m r
+      → BranchDone (suc h) (suc (L .entries) * q + L .entries) (suc (L .entries) * c) m (closed r)
   inner-done h q c m r some d =
       record { wf = (d .count, d .wf, d .starts some); starts = λ _. tt; fit = d .fit; empty = d .empty; part = d .part; nodes = omega (arith, d .nodes) }
 
   -- A leaf of n entries.
-  leaf-done : (h q c m n k : ℕ) (es : List Pair) → 0 < n → n ≤ L .entries → n ≤ length es → AllFit es → (x : ℕ) → Part m c x → L .entries ≤ q + min m c + x → BranchDone h q c m (fillLeaf L n k es)
+  leaf-done : (h q c m n k : ℕ) (es : List KeyValue) → 0 < n → n ≤ L .entries → n ≤ length es → AllFit es → (x : ℕ) → Part m c x
+      → L .entries ≤ q + min m c + x → BranchDone h q c m (fillLeaf L n k es)
   leaf-done h q c m n k es some few l f x pt full′ =
       record {
         wf = (simp length-take (omega arith), fit-take n es f, simp length-take (omega arith));
@@ -190,12 +197,14 @@ module _ (L : Layout) where
         nodes = omega arith;
       }
 
-  pub fill-done : (h m : ℕ) (es : List Pair) → 0 < L .entries → AllFit es → upper h + min m (room h) ≤ length es → BranchDone h (upper h) (room h) m (fill L h m es)
+  pub fill-done : (h m : ℕ) (es : List KeyValue) → 0 < L .entries → AllFit es → upper h + min m (room h) ≤ length es
+      → BranchDone h (upper h) (room h) m (fill L h m es)
   unfolding fill
   fill-done zero zero es some f l = record { wf = tt; starts = λ h. absurd (omega arith); fit = f; empty = 0; part = whole refl; nodes = omega arith }
   fill-done zero (suc m) es some f l =
       let t : ℕ = min (suc m) (L .entries) in
-      leaf-done 0 0 (L .entries) (suc m) t (suc m - t) es (omega arith) (omega arith) (omega arith) f (L .entries - suc m) (leaf-part (suc m) (omega arith)) (omega arith)
+      leaf-done 0 0 (L .entries) (suc m) t (suc m - t) es (omega arith) (omega arith) (omega arith) f (L .entries - suc m)
+      (leaf-part (suc m) (omega arith)) (omega arith)
   fill-done (suc zero) zero es some f l = leaf-done 1 (upper 1) (room 1) 0 (L .entries) 0 es some (omega arith) (omega arith) f 0 (whole refl) (omega arith)
   fill-done (suc zero) (suc m) es some f l =
       inner-done 0 (upper 0) (room 0) (suc m) (fillBranches (fill L zero) (L .entries) (suc m) es) (omega arith)
@@ -206,18 +215,18 @@ module _ (L : Layout) where
 
   -- ---- the depth
 
-  next-depth : (d : ℕ) (go : ℕ → List Pair → FilledBranches) → ((m : ℕ) (es : List Pair) → depthBranches (go m es .branches) ≤ d)
-      → (c : Filled) (es : List Pair) → depthBranch (c .branch) ≤ d → depthBranches (fillNext go c es .branches) ≤ d
+  next-depth : (d : ℕ) (go : ℕ → List KeyValue → FilledBranches) → ((m : ℕ) (es : List KeyValue) → depthBranches (go m es .branches) ≤ d)
+      → (c : Filled) (es : List KeyValue) → depthBranch (c .branch) ≤ d → depthBranches (fillNext go c es .branches) ≤ d
   next-depth d go ih c [] h = h
   next-depth d go ih c (e ∷ es) h = let r = ih (c .last) es in omega arith
 
-  branches-depth : (d : ℕ) (give : ℕ → List Pair → Filled) → ((m : ℕ) (es : List Pair) → depthBranch (give m es .branch) ≤ d)
-      → (n m : ℕ) (es : List Pair) → depthBranches (fillBranches give n m es .branches) ≤ d
+  branches-depth : (d : ℕ) (give : ℕ → List KeyValue → Filled) → ((m : ℕ) (es : List KeyValue) → depthBranch (give m es .branch) ≤ d)
+      → (n m : ℕ) (es : List KeyValue) → depthBranches (fillBranches give n m es .branches) ≤ d
   branches-depth d give ih zero m es = ih m es
   branches-depth d give ih (suc n) m es = next-depth d (fillBranches give n) (branches-depth d give ih n) (give m es) (give m es .rest) (ih m es)
 
   -- No deeper than its levels.
-  pub fill-depth : (h m : ℕ) (es : List Pair) → depthBranch (fill L h m es .branch) ≤ suc h
+  pub fill-depth : (h m : ℕ) (es : List KeyValue) → depthBranch (fill L h m es .branch) ≤ suc h
   unfolding fill
   fill-depth zero zero es = omega arith
   fill-depth zero (suc m) es = omega arith

@@ -22,7 +22,7 @@ pos-div n b h₀ h = by (n / b) (div-add-mod' n b)
 
 module _ (L : Layout) (some : 0 < L .entries) where
   -- n entries need more than h levels, and fit h + 1.
-  pub record Level (h n : ℕ) : Type 0 where
+  record Level (h n : ℕ) : Type 0 where
     pub over : upper L h < n
     pub under : n ≤ upper L (suc h)
 
@@ -40,7 +40,8 @@ module _ (L : Layout) (some : 0 < L .entries) where
   level zero n h₀ h₁ = absurd (omega arith)
   level (suc fuel) n h₀ h₁ = by (ltb n (suc (L .entries))) refl (level fuel (n / suc (L .entries)))
     where
-      by : (b : Bool) → ltb n (suc (L .entries)) ≡ b → (0 < n / suc (L .entries) → n / suc (L .entries) ≤ fuel → Level (logFrom L fuel (n / suc (L .entries))) (n / suc (L .entries)))
+      by : (b : Bool) → ltb n (suc (L .entries)) ≡ b
+          → (0 < n / suc (L .entries) → n / suc (L .entries) ≤ fuel → Level (logFrom L fuel (n / suc (L .entries))) (n / suc (L .entries)))
           → Level (logFrom L (suc fuel) n) n
       by true eb rec = rw (eb, logFrom) (record { over = h₀; under = omega (arith, ltb-true) })
       by false eb rec =

@@ -12,11 +12,11 @@ use borrow.Author.Tests.{le-leb, eq-eqb}
 use Rattle.format.specs.Layout.{Layout, pointer}
 use Rattle.format.specs.Refusal.{gives, provided, andThen}
 use Rattle.format.specs.Align.{zerosTo}
-use Rattle.format.specs.Tree.{Pair, Branch, lengthBranches, lengthBranch}
+use Rattle.format.specs.Tree.{Branch, lengthBranches, lengthBranch, KeyValue}
 use Rattle.format.specs.Build.{Filled, FilledBranches, closed, fillNext, fillBranches, fill, height, lastLevel, treeOf}
 use Rattle.format.specs.Build.{firstAlign, behind, pairs, rises, build, buildLength}
 use Rattle.format.specs.Laws.Numbers.Bytes.{length-leBytes}
-use Rattle.format.specs.Laws.Build.Laid.{length-offset, length-writeBranch}
+use Rattle.format.specs.Laws.Build.NodeBytes.{length-offset, length-writeBranch}
 use Rattle.format.specs.Laws.Build.Built32.{length-pairs, taken}
 
 module _ (L : Layout) where
@@ -39,8 +39,8 @@ module _ (L : Layout) where
     left : length (r .rest) ≡ length (s .rest)
     last : r .last ≡ s .last
 
-  next-alike : (go : ℕ → List Pair → FilledBranches) → ((m : ℕ) (es fs : List Pair) → length es ≡ length fs → AlikeBranches (go m es) (go m fs))
-      → (r s : Filled) → Alike r s → (l k : List Pair) → length l ≡ length k → AlikeBranches (fillNext go r l) (fillNext go s k)
+  next-alike : (go : ℕ → List KeyValue → FilledBranches) → ((m : ℕ) (es fs : List KeyValue) → length es ≡ length fs → AlikeBranches (go m es) (go m fs))
+      → (r s : Filled) → Alike r s → (l k : List KeyValue) → length l ≡ length k → AlikeBranches (fillNext go r l) (fillNext go s k)
   next-alike go rec r s A [] [] e = record { size = A .size; left = refl; last = A .last }
   next-alike go rec r s A [] (y ∷ k) e = absurd (suc-ne-zero (length k) (sym e))
   next-alike go rec r s A (x ∷ l) [] e = absurd (suc-ne-zero (length l) e)
@@ -48,20 +48,20 @@ module _ (L : Layout) where
       let B = subst (λ (m : ℕ). AlikeBranches (go (r .last) l) (go m k)) (A .last) (rec (r .last) l k (suc-inj e)) in
       record { size = omega (arith, A .size, B .size); left = B .left; last = B .last }
 
-  module _ (give : ℕ → List Pair → Filled) (alike : (m : ℕ) (es fs : List Pair) → length es ≡ length fs → Alike (give m es) (give m fs)) where
-    branches-alike : (n m : ℕ) (es fs : List Pair) → length es ≡ length fs → AlikeBranches (fillBranches give n m es) (fillBranches give n m fs)
+  module _ (give : ℕ → List KeyValue → Filled) (alike : (m : ℕ) (es fs : List KeyValue) → length es ≡ length fs → Alike (give m es) (give m fs)) where
+    branches-alike : (n m : ℕ) (es fs : List KeyValue) → length es ≡ length fs → AlikeBranches (fillBranches give n m es) (fillBranches give n m fs)
     branches-alike zero m es fs e = let A = alike m es fs e in record { size = A .size; left = A .left; last = A .last }
     branches-alike (suc n) m es fs e =
         let A = alike m es fs e in
         next-alike (fillBranches give n) (branches-alike n) (give m es) (give m fs) A (give m es .rest) (give m fs .rest) (A .left)
 
-    inner-alike : (m : ℕ) (es fs : List Pair) → length es ≡ length fs
+    inner-alike : (m : ℕ) (es fs : List KeyValue) → length es ≡ length fs
         → Alike (closed (fillBranches give (L .entries) m es)) (closed (fillBranches give (L .entries) m fs))
     inner-alike m es fs e =
         let B = branches-alike (L .entries) m es fs e in
         record { size = omega (arith, B .size); first = refl; left = B .left; last = B .last }
 
-  fill-alike : (h m : ℕ) (es fs : List Pair) → length es ≡ length fs → Alike (fill L h m es) (fill L h m fs)
+  fill-alike : (h m : ℕ) (es fs : List KeyValue) → length es ≡ length fs → Alike (fill L h m es) (fill L h m fs)
   unfolding fill
   fill-alike zero zero es fs e = record { size = refl; first = refl; left = e; last = refl }
   fill-alike zero (suc m) es fs e = record { size = refl; first = refl; left = simp length-drop (omega (arith, e)); last = refl }
@@ -70,7 +70,7 @@ module _ (L : Layout) where
   fill-alike (suc (suc h)) m es fs e = inner-alike (fill L (suc h)) (fill-alike (suc h)) m es fs e
 
   -- What stands behind a header is as long for other entries, if they are as many.
-  same-end : (es fs : List Pair) → length es ≡ length fs → (h n : ℕ) → length (behind L h (treeOf L es) n) ≡ length (behind L h (treeOf L fs) n)
+  same-end : (es fs : List KeyValue) → length es ≡ length fs → (h n : ℕ) → length (behind L h (treeOf L es) n) ≡ length (behind L h (treeOf L fs) n)
   unfolding treeOf
   same-end [] [] e h n = refl
   same-end [] (f ∷ fs) e h n = absurd (suc-ne-zero (length fs) (sym e))
@@ -97,7 +97,7 @@ module _ (L : Layout) (ks vs : List ℕ) (h : ℕ) where
     unfolding buildLength
     length-is =
         let n = length ks in
-        let e = length-replicate {A = Pair} n (record { key = 0; value = 0 }) ∙ sym (length-pairs ks vs same) in
+        let e = length-replicate {A = KeyValue} n (record { key = 0; value = 0 }) ∙ sym (length-pairs ks vs same) in
         ap (λ (x : ℕ). provided (leb n 40000) 11 (provided (leb h 4096) 13 (gives (h + x)))) (same-end L _ (pairs ks vs) e h n)
 
     -- Where a build is refused by neither 10 nor 12, it ends where `buildLength` says, if the output is that long, and 11 and 13 are the same.

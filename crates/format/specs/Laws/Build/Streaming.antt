@@ -10,16 +10,16 @@ use Rattle.format.specs.declared.Child.{Child}
 use Rattle.format.specs.declared.Child.the-variants.{Absent}
 use Rattle.format.specs.Layout.{Layout, nodeAlign}
 use Rattle.format.specs.Align.{zerosTo}
-use Rattle.format.specs.Tree.{Pair, Slot, Branch, noneB, someB, lengthBranch, childOf, writeBranch}
+use Rattle.format.specs.Tree.{Slot, Branch, noneB, someB, KeyValue}
 use Rattle.format.specs.Build.{logFrom, Filled, closed, fillBranches, fill, height, lastLevel, treeOf, recordBytes, behind, archive}
-use Rattle.format.specs.Serialize.{State, climb, transit, run, closeLast, closeInners, serialize, streamed}
+use Rattle.format.specs.Serialize.{State, climb, transit, run, closeLast, closeInners, serialize, streamed, Agrees}
+use Rattle.format.specs.TreeShape.{There}
 use Rattle.format.specs.Laws.Build.Built.{tree-is, none-left}
 use Rattle.format.specs.Laws.Build.Filling.{upper, room, fill-took}
 use Rattle.format.specs.Laws.Build.Height.{fitting}
-use Rattle.format.specs.Laws.Build.LastLevel.{leaf-full, leaf-last, last-small, Ends, ends-all}
-use Rattle.format.specs.Laws.Build.Subtrees.{sg, sg-pos, left-pos, ready, done, shut, shut-done, comes-to, Writes, inner-writes}
-use Rattle.format.specs.Laws.Build.Trees.{There}
-use Rattle.format.specs.Laws.Build.Turns.{TurnsTo, run-all}
+use Rattle.format.specs.Laws.Build.LoopLastLevel.{leaf-full, leaf-last, last-small, Ends, ends-all}
+use Rattle.format.specs.Laws.Build.LoopInner.{extraLevel, one-extra, left-pos, ready, done, shut, shut-done, comes-to, Writes, inner-writes}
+use Rattle.format.specs.Laws.Build.LoopSteps.{TurnsTo, run-all}
 
 module _ (L : Layout) where
   -- ---- the levels, from the last one up
@@ -30,8 +30,10 @@ module _ (L : Layout) where
       record { count = c + L .entries; left = omega arith; leads = leaf-full L some S ll c es p bs 0 (omega arith) (λ i h e. omega arith) }
   low-writes some S ll c (suc m) es p bs lf size =
       let R = fillBranches (fill L 0) (L .entries) (suc m) es in
-      comes-to L ll (ready L S 1 c es p bs) (λ c′. climb L S (sg (R .last)) (shut L c′ [] R p bs)) (λ c′. climb L S (0 + sg (R .last)) (done L c′ (closed R) p bs)) (R .last)
-      (λ c′. ap (climb L S (sg (R .last))) (shut-done L c′ R p bs) ∙ ap (λ (i : ℕ). climb L S i (done L c′ (closed R) p bs)) (sym (zero-add (sg (R .last)))))
+      comes-to L ll (ready L S 1 c es p bs) (λ c′. climb L S (extraLevel (R .last)) (shut L c′ [] R p bs))
+      (λ c′. climb L S (0 + extraLevel (R .last)) (done L c′ (closed R) p bs)) (R .last)
+      (λ c′. ap (climb L S (extraLevel (R .last))) (shut-done L c′ R p bs)
+      ∙ ap (λ (i : ℕ). climb L S i (done L c′ (closed R) p bs)) (sym (zero-add (extraLevel (R .last)))))
       (ends-all L some (L .entries) S [] ll c (suc m) es p bs (omega arith) lf (omega arith) (omega arith))
 
   tree-writes : 0 < L .entries → (l : ℕ) → Writes L (fill L (suc l)) (upper L (suc l)) (room L (suc l)) l
@@ -40,17 +42,21 @@ module _ (L : Layout) where
   tree-writes some (suc l) = inner-writes L (fill L (suc l)) (upper L (suc l)) (room L (suc l)) l (fill-took L (suc l)) (tree-writes some l)
 
   -- The whole loop, where the levels fit the entries.
-  loop : 0 < L .entries → (h m : ℕ) (es : List Pair) (p : ℕ) → 0 < m → m ≤ room L h → upper L h + m ≡ length es → (c : ℕ) × TurnsTo L m (ready L [] h 0 es p []) (done L c (fill L h m es) p [])
+  loop : 0 < L .entries → (h m : ℕ) (es : List KeyValue) (p : ℕ) → 0 < m → m ≤ room L h → upper L h + m ≡ length es
+      → (c : ℕ) × TurnsTo L m (ready L [] h 0 es p []) (done L c (fill L h m es) p [])
   unfolding climb transit Writes
   loop some zero zero es p pos fits e = absurd (not-suc-le-zero pos)
-  loop some zero (suc j) es p pos fits e =
-      (suc j, subst (λ (r : Filled). TurnsTo L (suc j) (ready L [] 0 0 es p []) (done L (suc j) r p [])) (sym (last-small L j es (omega arith))) (leaf-last L [] (suc j) 0 j es p [] (omega arith) (omega arith) (omega arith)))
+  loop some zero (suc j) es p pos fits e = (
+    suc j,
+    subst (λ (r : Filled). TurnsTo L (suc j) (ready L [] 0 0 es p []) (done L (suc j) r p [])) (sym (last-small L j es (omega arith)))
+        (leaf-last L [] (suc j) 0 j es p [] (omega arith) (omega arith) (omega arith)),
+  )
   loop some (suc l) m es p pos fits e =
       let a = tree-writes some l [] m 0 m es p [] (left-pos m 0 m pos (zero-add m)) (omega arith) in
-      let el : l + sg m ≡ suc l = ap (λ (i : ℕ). l + i) (sg-pos m pos) ∙ omega arith in
+      let el : l + extraLevel m ≡ suc l = ap (λ (i : ℕ). l + i) (one-extra m pos) ∙ omega arith in
       (a .count, subst (λ (i : ℕ). TurnsTo L m (ready L [] i 0 es p []) (done L (a .count) (fill L (suc l) m es) p [])) el (a .leads))
 
-  fill-there : (h m : ℕ) (es : List Pair) → 0 < m → There (fill L h m es .branch)
+  fill-there : (h m : ℕ) (es : List KeyValue) → 0 < m → There (fill L h m es .branch)
   unfolding fill
   fill-there zero zero es pos = absurd (not-suc-le-zero pos)
   fill-there zero (suc m) es pos = tt
@@ -58,25 +64,16 @@ module _ (L : Layout) where
   fill-there (suc zero) (suc m) es pos = tt
   fill-there (suc (suc h)) m es pos = tt
 
--- What the streaming builder leaves: the tree's bytes, its own node as the root, nothing open, no entry left, and no `unwrap` of nothing.
-pub record Agrees (L : Layout) (t : State) (b : Branch) (p : ℕ) : Type 0 where
-  pub bytes : t .bytes ≡ writeBranch L b p
-  pub pos : t .pos ≡ p + lengthBranch L b
-  pub root : t .childPos ≡ childOf L b p
-  pub iter : t .iter ≡ []
-  pub leaf : t .openLeaf ≡ []
-  pub inners : t .openInners ≡ []
-  pub panics : t .panics ≡ false
-
 module _ (L : Layout) (some : 0 < L .entries) where
-  finished : (c : ℕ) (r : Filled) (p : ℕ) (t : State) → r .rest ≡ [] → t ≡ done L c r p [] → let u = closeLast L (t .openLeaf) t in Agrees L (closeInners L (u .openInners) u) (r .branch) p
+  finished : (c : ℕ) (r : Filled) (p : ℕ) (t : State) → r .rest ≡ [] → t ≡ done L c r p [] → let u = closeLast L (t .openLeaf) t in
+      Agrees L (closeInners L (u .openInners) u) (r .branch) p
   unfolding closeInners
   finished c r p t e x =
       subst (λ (y : State). let u = closeLast L (y .openLeaf) y in Agrees L (closeInners L (u .openInners) u) (r .branch) p) (sym x)
       (record { bytes = refl; pos = refl; root = refl; iter = e; leaf = refl; inners = refl; panics = refl })
 
   -- The streaming definition and the tree agree.
-  pub serialize-agrees : (e : Pair) (es : List Pair) (p : ℕ) → Agrees L (serialize L (e ∷ es) p) (treeOf L (e ∷ es)) p
+  pub serialize-agrees : (e : KeyValue) (es : List KeyValue) (p : ℕ) → Agrees L (serialize L (e ∷ es) p) (treeOf L (e ∷ es)) p
   unfolding serialize
   serialize-agrees e es p =
       let all = e ∷ es in
@@ -86,20 +83,41 @@ module _ (L : Layout) (some : 0 < L .entries) where
       let eh : height L (length all) - 1 ≡ h = omega (arith, F .height-is) in
       let (c, l) = loop L some h m all p (F .last-pos) (F .last-room) (F .last-is) in
       let none = none-left L all F in
-      let start₁ : State = record { openLeaf = []; openInners = replicate (height L (length all) - 1) []; childPos = Absent; leafEntries = 0; iter = all; pos = p; bytes = []; panics = false } in
+      let start₁ : State =
+      record {
+        openLeaf = [];
+        openInners = replicate (height L (length all) - 1) [];
+        childPos = Absent;
+        leafEntries = 0;
+        iter = all;
+        pos = p;
+        bytes = [];
+        panics = false;
+      } in
       let es₁ : ready L [] h 0 all p [] ≡ start₁ =
       ap (λ (x : List (List Slot)). record′ p x) (append-nil (replicate h []) ∙ ap (λ (i : ℕ). replicate i []) (sym eh)) in
       let x : run L (length all) m start₁ ≡ done L c (fill L h m all) p [] =
       ap (run L (length all) m) (sym es₁) ∙ run-all L m (ready L [] h 0 all p []) (done L c (fill L h m all) p []) (length all) l none (omega arith) in
-      subst (λ (b : Branch). Agrees L (serialize L all p) b p) (sym (tree-is L e es h (F .height-is))) (finished c (fill L h m all) p (run L (length all) m start₁) none x)
+      subst (λ (b : Branch). Agrees L (serialize L all p) b p) (sym (tree-is L e es h (F .height-is)))
+      (finished c (fill L h m all) p (run L (length all) m start₁) none x)
     where
       record′ : ℕ → List (List Slot) → State
       record′ p x = record { openLeaf = []; openInners = x; childPos = Absent; leafEntries = 0; iter = e ∷ es; pos = p; bytes = []; panics = false }
 
   -- The loop leaves nothing to close: so do as many turns as there are entries.
-  pub run-agrees : (e : Pair) (es : List Pair) (p : ℕ)
+  pub run-agrees : (e : KeyValue) (es : List KeyValue) (p : ℕ)
       → let n = length (e ∷ es) in
-      Agrees L (run L n (lastLevel L n) (record { openLeaf = []; openInners = replicate (height L n - 1) []; childPos = Absent; leafEntries = 0; iter = e ∷ es; pos = p; bytes = []; panics = false }))
+      Agrees L (run L n (lastLevel L n)
+      (record {
+        openLeaf = [];
+        openInners = replicate (height L n - 1) [];
+        childPos = Absent;
+        leafEntries = 0;
+        iter = e ∷ es;
+        pos = p;
+        bytes = [];
+        panics = false;
+      }))
       (treeOf L (e ∷ es)) p
   run-agrees e es p =
       let all = e ∷ es in
@@ -119,21 +137,23 @@ module _ (L : Layout) (some : 0 < L .entries) where
       start₁ : List (List Slot) → State
       start₁ x = record { openLeaf = []; openInners = x; childPos = Absent; leafEntries = 0; iter = e ∷ es; pos = p; bytes = []; panics = false }
 
-  pub tree-there : (e : Pair) (es : List Pair) → There (treeOf L (e ∷ es))
+  pub tree-there : (e : KeyValue) (es : List KeyValue) → There (treeOf L (e ∷ es))
   tree-there e es =
       let F = fitting L some (length (e ∷ es)) (omega arith) in
       subst There (sym (tree-is L e es (F .above) (F .height-is))) (fill-there L (F .above) (lastLevel L (length (e ∷ es))) (e ∷ es) (F .last-pos))
 
   archive-as : (header : List ℕ) (n : ℕ) (b : Branch) (t : State) → There b → Agrees L t b (length header + zerosTo nodeAlign (length header))
-      → header ++ (replicate (zerosTo nodeAlign (length header)) 0 ++ (t .bytes ++ recordBytes L (t .pos) (t .childPos) n)) ≡ header ++ behind L (length header) b n
+      → header ++ (replicate (zerosTo nodeAlign (length header)) 0 ++ (t .bytes ++ recordBytes L (t .pos) (t .childPos) n))
+      ≡ header ++ behind L (length header) b n
   unfolding behind
   archive-as header n noneB t th A = absurd th
   archive-as header n (someB x) t th A =
       let z = zerosTo nodeAlign (length header) in
-      ap (λ (l : List ℕ). header ++ (replicate z 0 ++ l)) (ap₂ (λ (w r : List ℕ). w ++ r) (A .bytes) (ap₂ (λ (i : ℕ) (c : Child). recordBytes L i c n) (A .pos) (A .root)))
+      ap (λ (l : List ℕ). header ++ (replicate z 0 ++ l))
+      (ap₂ (λ (w r : List ℕ). w ++ r) (A .bytes) (ap₂ (λ (i : ℕ) (c : Child). recordBytes L i c n) (A .pos) (A .root)))
 
   -- The two archives are the same bytes.
-  pub streamed-archive : (header : List ℕ) (es : List Pair) → streamed L header es ≡ archive L header es
+  pub streamed-archive : (header : List ℕ) (es : List KeyValue) → streamed L header es ≡ archive L header es
   unfolding streamed archive treeOf
   streamed-archive header [] = refl
   streamed-archive header (e ∷ es) =
@@ -141,7 +161,7 @@ module _ (L : Layout) (some : 0 < L .entries) where
       archive-as header (length (e ∷ es)) (treeOf L (e ∷ es)) (serialize L (e ∷ es) p) (tree-there e es) (serialize-agrees e es p)
 
   -- The crate's loop meets no `unwrap` of nothing.
-  pub never-panics : (es : List Pair) (p : ℕ) → serialize L es p .panics ≡ false
+  pub never-panics : (es : List KeyValue) (p : ℕ) → serialize L es p .panics ≡ false
   unfolding serialize run closeInners height logFrom
   never-panics [] p = refl
   never-panics (e ∷ es) p = serialize-agrees e es p .panics

@@ -43,7 +43,7 @@ split (x ∷ xs) e r h =
     record { left = (a, s .left); under = (b .0, s .under); above = s .above; right = s .right }
 
 -- A list whose keys are above j holds no key up to j.
-pub find-above : (k j : ℕ) → k ≤ j → (l : List Entry) → Above j l → find k l ≡ nothing
+find-above : (k j : ℕ) → k ≤ j → (l : List Entry) → Above j l → find k l ≡ nothing
 find-above k j h [] a = refl
 find-above k j h (x ∷ xs) a = find-miss k x xs (λ e. omega arith) ∙ find-above k j h xs (a .1)
 
@@ -54,15 +54,15 @@ find-cons k x l r e = go (eqb (x .key) k) refl
     go true eb = find-hit k x l (eqb-true _ _ eb) ∙ sym (find-hit k x r (eqb-true _ _ eb))
     go false eb = find-miss k x l (eqb-false _ _ eb) ∙ e ∙ sym (find-miss k x r (eqb-false _ _ eb))
 
-pub find-left : (k : ℕ) (l r : List Entry) → find k r ≡ nothing → find k (l ++ r) ≡ find k l
+find-left : (k : ℕ) (l r : List Entry) → find k r ≡ nothing → find k (l ++ r) ≡ find k l
 find-left k [] r e = e
 find-left k (x ∷ xs) r e = find-cons k x (xs ++ r) xs (find-left k xs r e)
 
-pub find-right : (k : ℕ) (l r : List Entry) → Under k l → find k (l ++ r) ≡ find k r
+find-right : (k : ℕ) (l r : List Entry) → Under k l → find k (l ++ r) ≡ find k r
 find-right k [] r u = refl
 find-right k (x ∷ xs) r u = find-miss k x (xs ++ r) (λ e. omega arith) ∙ find-right k xs r (u .1)
 
-pub under-mono : (j k : ℕ) → j ≤ k → (l : List Entry) → Under j l → Under k l
+under-mono : (j k : ℕ) → j ≤ k → (l : List Entry) → Under j l → Under k l
 under-mono j k h [] u = tt
 under-mono j k h (x ∷ xs) u = (omega arith, under-mono j k h xs (u .1))
 

@@ -8,20 +8,21 @@ use mathlib.Core.List.{List}
 use native.Mathlib.Omega.{arith}
 use borrow.Author.Tests.{not-true}
 use Rattle.format.specs.Layout.{Layout, Limits, nested}
-use Rattle.format.specs.RelPtr.{Target, at, below, target, absent}
+use Rattle.format.specs.RelPtr.{at, below, target, absent, Destination}
 use Rattle.format.specs.Node.{Kind, leaf, inner, other, child, kind}
 use Rattle.format.specs.Check.{accepted, refused, root, recorded, checkArchive}
 use Rattle.format.specs.Entries.{listTarget, listAt, listOf, list}
 use Rattle.format.specs.Reachable.{Below, From, here, down}
 use Rattle.format.specs.Certify.{Ascending, ascends, hollow, Solid, anyChild, anyChildren, anyBody, hollowAt, hollowOf, certify}
 use Rattle.format.specs.Lookup.{find, lookupTarget, lookupAt, lookupOf, lookup}
-use Rattle.format.specs.Laws.Check.Archive.{Rooted, Archive, archive}
+use Rattle.format.specs.Accepted.{Certified, Rooted, Archive}
+use Rattle.format.specs.NodeRelation.{ChildOk, gone, there, ChildrenOk, last, more, NodeOk, Holds}
+use Rattle.format.specs.Laws.Check.Archive.{archive}
 use Rattle.format.specs.Laws.Certify.Ascend.{ascending, ascends-true}
 use Rattle.format.specs.Laws.Check.Complete.{pass}
 use Rattle.format.specs.Laws.Certify.Lookup.{lookup-find}
-use Rattle.format.specs.Laws.Check.Reach.{true≢false, First, same, via, first, children-of, through-below}
+use Rattle.format.specs.Laws.Check.Reach.{true≢false, First, same, via, first, children-of, through-below, Nth, this, next}
 use Rattle.format.specs.Laws.Check.Sound.{guard-inv, bind-inv}
-use Rattle.format.specs.Laws.Check.Valid.{Nth, this, next, ChildOk, gone, there, ChildrenOk, last, more, NodeOk, Holds}
 
 pub or-left : (a b : Bool) → (elim a as (λ _. Bool) [ true ↦ true | false ↦ b ]) ≡ false → a ≡ false
 or-left true b e = e
@@ -34,15 +35,18 @@ or-right false b e = e
 module _ (L : Layout) (s : List ℕ) where
   -- What is known one level down: no field reachable from one that leads to a node N leads to a hollow L s node.
   SolidBelow : (N : ℕ → ℕ → ℕ → ℕ → Type 0) → (ℕ → Bool) → Type 0
-  SolidBelow N any = (lo hi p n g f q : ℕ) → N lo hi p n → any p ≡ false → target L s g ≡ at p → From L s g f → target L s f ≡ at q → hollow L s q (kind L s q) ≡ false
+  SolidBelow N any =
+      (lo hi p n g f q : ℕ) → N lo hi p n → any p ≡ false → target L s g ≡ at p → From L s g f → target L s f ≡ at q → hollow L s q (kind L s q) ≡ false
 
   module _ (N : ℕ → ℕ → ℕ → ℕ → Type 0) (any : ℕ → Bool) (S : SolidBelow N any) where
-    child-solid : {lo hi g stop n f q : ℕ} → ChildOk L s N lo hi g stop n → absent L s g ≡ false → anyChild L s any g ≡ false → From L s g f → target L s f ≡ at q → hollow L s q (kind L s q) ≡ false
+    child-solid : {lo hi g stop n f q : ℕ} → ChildOk L s N lo hi g stop n → absent L s g ≡ false → anyChild L s any g ≡ false → From L s g f
+        → target L s f ≡ at q → hollow L s q (kind L s q) ≡ false
     unfolding SolidBelow anyChild
     child-solid (gone ea es en) pr e r ef = absurd (true≢false ea pr)
     child-solid (there ea q el nd es) pr e r ef = S _ _ q _ _ _ _ nd (rw (ea, el, anyChild) at e) el r ef
 
-    children-solid : {p k i j lo n f q : ℕ} → ChildrenOk L s N p k i lo n → anyChildren L s any p k i ≡ false → Nth k i j → absent L s (child L p j) ≡ false → From L s (child L p j) f
+    children-solid : {p k i j lo n f q : ℕ} → ChildrenOk L s N p k i lo n → anyChildren L s any p k i ≡ false → Nth k i j
+        → absent L s (child L p j) ≡ false → From L s (child L p j) f
         → target L s f ≡ at q → hollow L s q (kind L s q) ≡ false
     unfolding anyChildren
     children-solid (last c) e this pr r ef = child-solid c pr e r ef
@@ -68,14 +72,14 @@ module _ (L : Layout) (s : List ℕ) where
       node-solid (Holds L s d) (hollowAt L s d) (holds-solid d) v (or-left (hollow L s p (kind L s p)) _ e) (or-right (hollow L s p (kind L s p)) _ e) el r ef
 
   -- The other way: where the test finds a hollow node, one is reachable.
-  pub record Hollow (g : ℕ) : Type 0 where
+  record Hollow (g : ℕ) : Type 0 where
     pub field : ℕ
     pub from : From L s g field
     pub pos : ℕ
     pub leads : target L s field ≡ at pos
     pub is : hollow L s pos (kind L s pos) ≡ true
 
-  pub onto : {g h : ℕ} → Below L s g h → {f : ℕ} → From L s h f → From L s g f
+  onto : {g h : ℕ} → Below L s g h → {f : ℕ} → From L s h f → From L s g f
   onto b here = down here b
   onto b (down r c) = down (onto b r) c
 
@@ -84,7 +88,7 @@ module _ (L : Layout) (s : List ℕ) where
     unfolding anyChild
     child-hollow f e = go (absent L s f) (target L s f) refl refl
       where
-        go : (b : Bool) (t : Target) → absent L s f ≡ b → target L s f ≡ t → (absent L s f ≡ false) × Hollow f
+        go : (b : Bool) (t : Destination) → absent L s f ≡ b → target L s f ≡ t → (absent L s f ≡ false) × Hollow f
         go true t eb et = absurd (true≢false (rw (eb, anyChild) at e) refl)
         go false (at q) eb et = (eb, ih q f (rw (eb, et, anyChild) at e) et)
         go false below eb et = absurd (true≢false (rw (eb, et, anyChild) at e) refl)
@@ -105,10 +109,17 @@ module _ (L : Layout) (s : List ℕ) where
     body-hollow p g leaf ek e el = absurd (true≢false e refl)
     body-hollow p g inner ek e el =
         let (j, l, pr, h) = children-hollow p (L .entries) 0 e in
-        record { field = h .field; from = onto (record { node = p; leads = el; inside = ek; index = j; bound = omega arith; is = refl; present = pr }) (h .from); pos = h .pos; leads = h .leads; is = h .is }
+        record {
+          field = h .field;
+          from = onto (record { node = p; leads = el; inside = ek; index = j; bound = omega arith; is = refl; present = pr }) (h .from);
+          pos =
+              h .pos;
+          leads = h .leads;
+          is = h .is;
+        }
     body-hollow p g other ek e el = absurd (true≢false e refl)
 
-  pub hollow-found : (fuel p g : ℕ) → hollowAt L s fuel p ≡ true → target L s g ≡ at p → Hollow g
+  hollow-found : (fuel p g : ℕ) → hollowAt L s fuel p ≡ true → target L s g ≡ at p → Hollow g
   unfolding hollowAt
   hollow-found zero p g e el = absurd (true≢false e refl)
   hollow-found (suc fuel) p g e el = go (hollow L s p (kind L s p)) refl (hollow-found fuel)
@@ -122,13 +133,6 @@ not-hollow true h = absurd (h refl)
 not-hollow false h = refl
 
 module _ (L : Layout) (M : Limits) (s : List ℕ) where
-  -- What certify accepts. `firm` is `solid` by the computed test.
-  pub record Certified : Type 0 where
-    pub archive : Archive L M s
-    pub ascending : Ascending (list L M s)
-    pub firm : 0 < recorded L s → (R : Rooted L M s) → hollowAt L s (nested M) (R .pos) ≡ false
-    pub solid : Solid L s
-
   root-firm : (r : ℕ) → recorded L s ≡ r → not (hollowOf L M s r) ≡ true → 0 < recorded L s → (R : Rooted L M s) → hollowAt L s (nested M) (R .pos) ≡ false
   root-firm zero er e h R = absurd (omega arith)
   root-firm (suc r) er e h R = rw (R .leads) at (not-true (hollowOf L M s (suc r)) e)
@@ -139,7 +143,7 @@ module _ (L : Layout) (M : Limits) (s : List ℕ) where
       let R = A .rooted (x .some) in
       holds-solid L s (nested M) _ _ _ _ _ _ _ (R .valid .holds) (firm (x .some) R) (R .leads) (x .from) ef
 
-  pub certified : (n t : ℕ) → certify L M s ≡ accepted n t → Certified × (n ≡ recorded L s)
+  pub certified : (n t : ℕ) → certify L M s ≡ accepted n t → Certified L M s × (n ≡ recorded L s)
   unfolding certify
   certified n t e =
       let (m, u, ec, eg) = bind-inv (checkArchive L M s) _ e in
@@ -163,7 +167,7 @@ module _ (L : Layout) (M : Limits) (s : List ℕ) where
   solid-root S zero er e = true≢false e refl
   solid-root S (suc r) er e = go (target L s (root L s)) refl
     where
-      go : (t : Target) → target L s (root L s) ≡ t → ⊥
+      go : (t : Destination) → target L s (root L s) ≡ t → ⊥
       go (at p) et =
           let h = hollow-found L s (nested M) p (root L s) (rw et at e) et in
           true≢false (h .is) (S (h .field) (h .pos) (record { some = omega arith; from = h .from }) (h .leads))
@@ -198,7 +202,7 @@ module _ (L : Layout) (M : Limits) (s : List ℕ) where
   certify-refused r e = rw e
 
   -- On certified bytes lookup is find in the list, for every key.
-  pub lookup-certified : Certified → (k : ℕ) → lookup L M s k ≡ find k (list L M s)
+  pub lookup-certified : Certified L M s → (k : ℕ) → lookup L M s k ≡ find k (list L M s)
   unfolding list lookup
   lookup-certified C k = go (recorded L s) (C .ascending)
     where
@@ -206,7 +210,7 @@ module _ (L : Layout) (M : Limits) (s : List ℕ) where
       go zero a = refl
       go (suc r) a = under (target L s (root L s)) a
         where
-          under : (g : Target) → Ascending (listTarget L s (listAt L s (nested M)) g)
+          under : (g : Destination) → Ascending (listTarget L s (listAt L s (nested M)) g)
               → lookupTarget L s k (lookupAt L s k (nested M)) g ≡ find k (listTarget L s (listAt L s (nested M)) g)
           under (at q) a = lookup-find L s k (nested M) q a
           under below a = refl

@@ -1,7 +1,7 @@
 -- What the search in a list finds: an entry of the list with the key, or nothing where no entry has it; in an ascending list each entry is the one
 -- that its key finds. Assumes nothing.
 use Prim.Native.Nat.{ℕ, _<_}
-use mathlib.Core.Path.{_≡_, refl, sym, ap, _∙_, subst}
+use mathlib.Core.Path.{_≡_, refl, sym, _∙_, subst}
 use mathlib.Core.Bool.{Bool, true, false}
 use mathlib.Core.List.{List, [], _∷_}
 use mathlib.Core.Logic.{_≢_}
@@ -11,13 +11,8 @@ use borrow.Author.Tests.{eqb-true, eqb-false}
 use Rattle.format.specs.declared.Entry.{Entry}
 use Rattle.format.specs.declared.Found.the-variants.{Entry as found, Nothing as nothing}
 use Rattle.format.specs.Certify.{Above, Ascending}
-use Rattle.format.specs.Lookup.{find}
+use Rattle.format.specs.Lookup.{find, In, first, later}
 use Rattle.format.specs.Laws.Certify.Ascend.{find-hit, find-miss}
-
--- e is an entry of the list.
-pub data In (e : Entry) : List Entry → Type 0 where
-  first : {l : List Entry} → In e (e ∷ l)
-  later : {x : Entry} {l : List Entry} → In e l → In e (x ∷ l)
 
 above-in : (k : ℕ) (l : List Entry) → Above k l → (e : Entry) → In e l → k < e .key
 above-in k (x ∷ l) a e first = a .0

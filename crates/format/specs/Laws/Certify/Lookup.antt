@@ -9,19 +9,19 @@ use borrow.Author.Tests.{eqb-true, eqb-false, ltb-true, ltb-false}
 use Rattle.format.specs.declared.Entry.{Entry}
 use Rattle.format.specs.declared.Found.{Found}
 use Rattle.format.specs.Layout.{Layout}
-use Rattle.format.specs.RelPtr.{Target, at, below, target, absent}
+use Rattle.format.specs.RelPtr.{at, below, target, absent, Destination}
 use Rattle.format.specs.Node.{Kind, leaf, inner, other, child, kind, leafCount, slot}
 use Rattle.format.specs.Entries.{slots, listChild, listChildren, listBody, listAt}
 use Rattle.format.specs.Certify.{Ascending}
 use Rattle.format.specs.Lookup.{find, less, equal, greater, order, lookupSlots, lookupChild, lookupChildren, lookupBody, lookupAt}
 use Rattle.format.specs.Laws.Certify.Ascend.{Split, split, find-less, find-same, find-more}
 
-pub data Orders (k : ℕ) (e : Entry) : Type 0 where
+data Orders (k : ℕ) (e : Entry) : Type 0 where
   is-less : order k e ≡ less → k < e .key → Orders k e
   is-equal : order k e ≡ equal → k ≡ e .key → Orders k e
   is-greater : order k e ≡ greater → e .key < k → Orders k e
 
-pub orders : (k : ℕ) (e : Entry) → Orders k e
+orders : (k : ℕ) (e : Entry) → Orders k e
 orders k e = go (ltb k (e .key)) (eqb k (e .key)) refl refl
   where
     go : (a b : Bool) → ltb k (e .key) ≡ a → eqb k (e .key) ≡ b → Orders k e
@@ -51,7 +51,7 @@ module _ (L : Layout) (s : List ℕ) (k : ℕ) where
     unfolding lookupChild listChild
     child-find f a = go (absent L s f) (target L s f) refl refl
       where
-        go : (b : Bool) (g : Target) → absent L s f ≡ b → target L s f ≡ g → lookupChild L s k look f ≡ find k (listChild L s give f)
+        go : (b : Bool) (g : Destination) → absent L s f ≡ b → target L s f ≡ g → lookupChild L s k look f ≡ find k (listChild L s give f)
         go true g eb eg = rw (eb, lookupChild, listChild)
         go false (at q) eb eg = rw (eb, eg, lookupChild, listChild) (ih q (rw (eb, eg, listChild) at a))
         go false below eb eg = rw (eb, eg, lookupChild, listChild)

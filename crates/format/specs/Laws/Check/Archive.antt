@@ -1,6 +1,6 @@
 -- What an accepted archive is: its reachable fields lead to aligned nodes that lie before the record and share no byte, none is reached twice,
 -- and its list has as many entries as the record counts. Assumes nothing.
-use Prim.Native.Nat.{ℕ, zero, suc, _%_, _≤_, _<_}
+use Prim.Native.Nat.{ℕ, zero, suc, _%_, _<_}
 use mathlib.Core.Path.{_≡_, refl, sym, _∙_, subst}
 use mathlib.Core.List.{List}
 use mathlib.Core.Logic.{_≢_}
@@ -13,24 +13,14 @@ use Rattle.format.specs.RelPtr.{at, target}
 use Rattle.format.specs.Check.{accepted, checkNode, root, recorded, checkRoot, checkArchive}
 use Rattle.format.specs.Entries.{listOf, list}
 use Rattle.format.specs.Reachable.{Field, Lands, Apart}
+use Rattle.format.specs.NodeRelation.{Valid}
+use Rattle.format.specs.Accepted.{Rooted, Archive}
 use Rattle.format.specs.Laws.Check.Count.{count}
 use Rattle.format.specs.Laws.Check.Reach.{wider, inside, lands, apart, once}
 use Rattle.format.specs.Laws.Check.Sound.{guard-inv, bind-inv, sound}
-use Rattle.format.specs.Laws.Check.Valid.{Valid}
 
 module _ (L : Layout) (M : Limits) (s : List ℕ) where
-  -- The root of an archive whose count is above 0.
-  pub record Rooted : Type 0 where
-    pub pos : ℕ
-    pub leads : target L s (root L s) ≡ at pos
-    pub valid : Valid L s (nested M) 0 (root L s) pos (recorded L s)
-
-  pub record Archive : Type 0 where
-    pub small : length s ≤ M .longest
-    pub room : recordSize L ≤ length s
-    pub rooted : 0 < recorded L s → Rooted
-
-  root-inv : (r n t : ℕ) → recorded L s ≡ r → checkRoot L M s r ≡ accepted n t → (n ≡ recorded L s) × (0 < recorded L s → Rooted)
+  root-inv : (r n t : ℕ) → recorded L s ≡ r → checkRoot L M s r ≡ accepted n t → (n ≡ recorded L s) × (0 < recorded L s → Rooted L M s)
   unfolding checkRoot
   root-inv zero n t er e = (cc, λ h. absurd (omega arith))
   root-inv (suc r) n t er e =
@@ -38,11 +28,17 @@ module _ (L : Layout) (M : Limits) (s : List ℕ) where
       let (eb, ea) = guard-inv (eqb m (suc r)) _ _ eg in
       let em : m ≡ recorded L s = eqb-true _ _ eb ∙ sym er in
       let h = sound L s (nested M) (root L s) 0 (root L s) m u ec in
-      let en : m ≡ n = cc in
-      (omega arith, λ _. record { pos = h .pos; leads = h .leads; valid = subst (λ (x : ℕ). Valid L s (nested M) 0 (root L s) (h .pos) x) em (record { holds = h .node }) })
+      let en : m ≡ n = cc in (
+        omega arith,
+        λ _. record {
+          pos = h .pos;
+          leads = h .leads;
+          valid = subst (λ (x : ℕ). Valid L s (nested M) 0 (root L s) (h .pos) x) em (record { holds = h .node });
+        },
+      )
 
   -- What the check accepts, with the recorded count.
-  pub archive : (n t : ℕ) → checkArchive L M s ≡ accepted n t → Archive × (n ≡ recorded L s)
+  pub archive : (n t : ℕ) → checkArchive L M s ≡ accepted n t → Archive L M s × (n ≡ recorded L s)
   unfolding checkArchive
   archive n t e =
       let (e₁, a₁) = guard-inv (leb (length s) (M .longest)) _ _ e in
@@ -52,7 +48,7 @@ module _ (L : Layout) (M : Limits) (s : List ℕ) where
       let (en, h) = root-inv (recorded L s) n t refl a₄ in
       (record { small = leb-true _ _ e₁; room = leb-true _ _ e₂; rooted = h }, en)
 
-  module _ (A : Archive) where
+  module _ (A : Archive L M s) where
     -- Every reachable field leads to an aligned node that lies before the record.
     pub field-lands : {f : ℕ} → Field L s f → Lands L s 0 (root L s) f
     field-lands x =

@@ -13,8 +13,8 @@ use Rattle.format.specs.Node.{Kind, leaf, inner, other, kind, sizeAt}
 use Rattle.format.specs.Check.{Checked, accepted, guard, checkChild, checkChildren, checkBody, enter, checkAt, checkNode}
 use Rattle.format.specs.Entries.{listChild, listChildren, listBody, listAt}
 use Rattle.format.specs.Reachable.{Inside}
-use Rattle.format.specs.Laws.Check.Sound.{Leads, sound}
-use Rattle.format.specs.Laws.Check.Valid.{ChildOk, gone, there, ChildrenOk, last, more, NodeOk, leafOk, innerOk, Holds, Valid}
+use Rattle.format.specs.NodeRelation.{ChildOk, gone, there, ChildrenOk, last, more, NodeOk, leafOk, innerOk, Holds, Valid, LeadsToNode}
+use Rattle.format.specs.Laws.Check.Sound.{sound}
 
 pub pass : {b : Bool} → b ≡ true → (r : ℕ) (a : Checked) → guard b r a ≡ a
 pass e r a = rw e
@@ -29,7 +29,8 @@ module _ (L : Layout) (s : List ℕ) where
   at-passes : (lo hi p : ℕ) (a : Checked) → Inside L s lo hi p → (k : Kind) → kind L s p ≡ k → (k ≡ other → ⊥) → checkAt L s hi lo (at p) a ≡ a
   unfolding checkAt
   at-passes lo hi p a i k ek no-other =
-      pass (le-leb _ _ (i .low)) _ _ ∙ pass (le-leb _ _ (head k ek no-other)) _ _ ∙ pass (eq-eqb _ _ (i .aligned)) _ _ ∙ rw ek (enter-passes lo hi p a i k ek no-other)
+      pass (le-leb _ _ (i .low)) _ _ ∙ pass (le-leb _ _ (head k ek no-other)) _ _ ∙ pass (eq-eqb _ _ (i .aligned)) _ _
+      ∙ rw ek (enter-passes lo hi p a i k ek no-other)
     where
       head : (k : Kind) → kind L s p ≡ k → (k ≡ other → ⊥) → p + headSize L ≤ hi
       head leaf ek no-other = let h = rw ek at (i .high) in omega arith
@@ -68,14 +69,15 @@ module _ (L : Layout) (s : List ℕ) where
   unfolding checkNode
   holds-accepted zero lo hi f p n el v = absurd v
   holds-accepted (suc d) lo hi f p n el v =
-      rw el (at-passes lo hi p _ (node-inside (Holds L s d) (checkNode L s d) (holds-accepted d) v) (kind L s p) refl (node-kind (Holds L s d) (checkNode L s d) (holds-accepted d) v)
+      rw el (at-passes lo hi p _ (node-inside (Holds L s d) (checkNode L s d) (holds-accepted d) v) (kind L s p) refl
+      (node-kind (Holds L s d) (checkNode L s d) (holds-accepted d) v)
       ∙ node-accepted (Holds L s d) (checkNode L s d) (holds-accepted d) v)
 
   pub complete : {d lo hi p n : ℕ} → Valid L s d lo hi p n → (f : ℕ) → target L s f ≡ at p → checkNode L s d hi lo f ≡ accepted n (p + sizeAt L s p)
   complete {d} v f el = holds-accepted d _ _ _ _ _ el (v .holds)
 
   -- The check accepts exactly when the node relation holds where the field leads.
-  pub accepts-exactly : (d hi lo f n t : ℕ) → (checkNode L s d hi lo f ≡ accepted n t) ↔ Leads L s (Holds L s d) lo hi f n t
+  pub accepts-exactly : (d hi lo f n t : ℕ) → (checkNode L s d hi lo f ≡ accepted n t) ↔ LeadsToNode L s (Holds L s d) lo hi f n t
   accepts-exactly d hi lo f n t =
       (sound L s d hi lo f n t, λ l. holds-accepted d lo hi f (l .pos) n (l .leads) (l .node) ∙ ap (accepted n) (sym (l .next)))
 

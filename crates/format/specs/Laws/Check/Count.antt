@@ -8,7 +8,7 @@ use Rattle.format.specs.declared.Entry.{Entry}
 use Rattle.format.specs.Layout.{Layout}
 use Rattle.format.specs.Node.{kind}
 use Rattle.format.specs.Entries.{slots, listChild, listChildren, listBody, listAt}
-use Rattle.format.specs.Laws.Check.Valid.{ChildOk, gone, there, ChildrenOk, last, more, NodeOk, leafOk, innerOk, Holds, Valid}
+use Rattle.format.specs.NodeRelation.{ChildOk, gone, there, ChildrenOk, last, more, NodeOk, leafOk, innerOk, Holds, Valid}
 
 module _ (L : Layout) (s : List ℕ) where
   pub slots-length : (p n i : ℕ) → length (slots L s p n i) ≡ n

@@ -11,7 +11,21 @@ use Rattle.format.specs.Layout.{Layout}
 use Rattle.format.specs.RelPtr.{at, target, absent}
 use Rattle.format.specs.Node.{inner, child, kind, sizeAt}
 use Rattle.format.specs.Reachable.{Below, From, here, down, Inside, Lands, Apart}
-use Rattle.format.specs.Laws.Check.Valid.{Nth, this, next, nth-of, ChildOk, gone, there, ChildrenOk, last, more, NodeOk, leafOk, innerOk, Holds, Valid}
+use Rattle.format.specs.NodeRelation.{ChildOk, gone, there, ChildrenOk, last, more, NodeOk, leafOk, innerOk, Holds, Valid}
+
+-- Child j is one of k + 1 children from child i on.
+pub data Nth : ℕ → ℕ → ℕ → Type 0 where
+  this : {k i : ℕ} → Nth k i i
+  next : {k i j : ℕ} → Nth k (suc i) j → Nth (suc k) i j
+
+pub nth : (k i j m : ℕ) → j ≡ i + m → m ≤ k → Nth k i j
+nth k i j zero e h = let e′ : i ≡ j = omega arith in subst (λ (x : ℕ). Nth k i x) e′ this
+nth zero i j (suc m) e h = absurd (omega arith)
+nth (suc k) i j (suc m) e h = next (nth k (suc i) j m (omega arith) (omega arith))
+
+-- Any child of a node.
+pub nth-of : {k j : ℕ} → j ≤ k → Nth k 0 j
+nth-of {k} {j} h = nth k 0 j j (omega arith) h
 
 pub true≢false : {b : Bool} → b ≡ true → b ≡ false → ⊥
 true≢false p q = let z : _≡_ {A = ℕ} 0 1 = cc in omega arith
@@ -30,13 +44,19 @@ module _ (L : Layout) (s : List ℕ) where
       go (via c r′) = via c (down r′ b)
 
   pub wider : {lo top lo′ top′ f : ℕ} → lo′ ≤ lo → top ≤ top′ → Lands L s lo top f → Lands L s lo′ top′ f
-  wider hl ht l = record { pos = l .pos; leads = l .leads; inside = record { low = omega arith; high = omega arith; solid = l .inside .solid; aligned = l .inside .aligned } }
+  wider hl ht l =
+      record {
+        pos = l .pos;
+        leads = l .leads;
+        inside = record { low = omega arith; high = omega arith; solid = l .inside .solid; aligned = l .inside .aligned };
+      }
 
   inside-of : (N : ℕ → ℕ → ℕ → ℕ → Type 0) {lo hi p n : ℕ} → NodeOk L s N lo hi p n → Inside L s lo hi p
   inside-of N (leafOk ek i l e) = i
   inside-of N (innerOk ek i m ks e) = i
 
-  pub children-of : (N : ℕ → ℕ → ℕ → ℕ → Type 0) {lo hi p n : ℕ} → NodeOk L s N lo hi p n → kind L s p ≡ inner → (m : ℕ) × ChildrenOk L s N p (L .entries) 0 lo m
+  pub children-of : (N : ℕ → ℕ → ℕ → ℕ → Type 0) {lo hi p n : ℕ} → NodeOk L s N lo hi p n → kind L s p ≡ inner
+      → (m : ℕ) × ChildrenOk L s N p (L .entries) 0 lo m
   children-of N (leafOk ek i l e) e′ = let z : _≡_ {A = ℕ} 0 1 = cc in absurd (omega arith)
   children-of N (innerOk ek i m ks e) e′ = (m, ks)
 
@@ -69,7 +89,8 @@ module _ (L : Layout) (s : List ℕ) where
     child-lands (gone ea es en) pr r = absurd (true≢false ea pr)
     child-lands (there ea q el nd es) pr r = rw es (K .under nd el r)
 
-    children-land : {p k i j lo n f : ℕ} → ChildrenOk L s N p k i lo n → lo ≤ p → Nth k i j → absent L s (child L p j) ≡ false → From L s (child L p j) f → Lands L s lo p f
+    children-land : {p k i j lo n f : ℕ} → ChildrenOk L s N p k i lo n → lo ≤ p → Nth k i j → absent L s (child L p j) ≡ false
+        → From L s (child L p j) f → Lands L s lo p f
     children-land (last c) h this pr r = wider (omega arith) (child-moves c h .1) (child-lands c pr r)
     children-land (more c ks en) h this pr r = wider (omega arith) (child-moves c h .1) (child-lands c pr r)
     children-land (more c ks en) h (next x) pr r = let m = child-moves c h in wider (m .0) (omega arith) (children-land ks (m .1) x pr r)
@@ -154,7 +175,8 @@ module _ (L : Layout) (s : List ℕ) where
   apart {d} v el r r′ ne = separate d _ _ _ _ _ _ _ (v .holds) el r r′ ne
 
   -- Two that lead to one node are one field.
-  pub once : {d lo hi p n g f f′ q : ℕ} → Valid L s d lo hi p n → target L s g ≡ at p → From L s g f → From L s g f′ → target L s f ≡ at q → target L s f′ ≡ at q → f ≡ f′
+  pub once : {d lo hi p n g f f′ q : ℕ} → Valid L s d lo hi p n → target L s g ≡ at p → From L s g f → From L s g f′ → target L s f ≡ at q
+      → target L s f′ ≡ at q → f ≡ f′
   once {d} {lo} {hi} {p} {n} {g} {f} {f′} {q} v el r r′ ef ef′ = elim (ℕ-discrete f f′) [ yes e ↦ e | no ne ↦ absurd (clash (apart v el r r′ ne)) ]
     where
       clash : Apart L s f f′ → ⊥

@@ -7,13 +7,13 @@ use native.Mathlib.Omega.{arith}
 use lib.Dec.{leb, eqb}
 use borrow.Author.Tests.{leb-true, eqb-true}
 use Rattle.format.specs.Layout.{Layout, headSize, leafSize, innerSize}
-use Rattle.format.specs.RelPtr.{Target, at, below, target, absent}
+use Rattle.format.specs.RelPtr.{at, below, target, absent, Destination}
 use Rattle.format.specs.Node.{Kind, leaf, inner, other, child, kind, sizeAt, leafCount}
 use Rattle.format.specs.Check.{Checked, accepted, refused, bind, guard, checkChild, checkChildren, checkBody, enter, checkAt, place, checkNode}
 use Rattle.format.specs.Reachable.{Inside}
-use Rattle.format.specs.Laws.Check.Valid.{ChildOk, gone, there, ChildrenOk, last, more, NodeOk, leafOk, innerOk, Holds}
+use Rattle.format.specs.NodeRelation.{ChildOk, gone, there, ChildrenOk, last, more, NodeOk, leafOk, innerOk, Holds, LeadsToNode}
 
-pub refused≢accepted : (r n t : ℕ) → refused r ≡ accepted n t → ⊥
+refused≢accepted : (r n t : ℕ) → refused r ≡ accepted n t → ⊥
 refused≢accepted r n t e = let z : _≡_ {A = ℕ} 0 1 = cc in omega arith
 
 pub guard-inv : (b : Bool) (r : ℕ) (a : Checked) {n t : ℕ} → guard b r a ≡ accepted n t → (b ≡ true) × (a ≡ accepted n t)
@@ -25,15 +25,8 @@ bind-inv (accepted m u) k e = (m, u, refl, e)
 bind-inv (refused r) k e = absurd (refused≢accepted _ _ _ e)
 
 module _ (L : Layout) (s : List ℕ) where
-  -- The field f leads to a node N of n entries, after which the range starts at `stop`.
-  pub record Leads (N : ℕ → ℕ → ℕ → ℕ → Type 0) (lo hi f n stop : ℕ) : Type 0 where
-    pub pos : ℕ
-    pub leads : target L s f ≡ at pos
-    pub node : N lo hi pos n
-    pub next : stop ≡ pos + sizeAt L s pos
-
   module _ (N : ℕ → ℕ → ℕ → ℕ → Type 0) (check : ℕ → ℕ → Checked) (hi : ℕ)
-      (ih : (lo f n t : ℕ) → check lo f ≡ accepted n t → Leads N lo hi f n t) where
+      (ih : (lo f n t : ℕ) → check lo f ≡ accepted n t → LeadsToNode L s N lo hi f n t) where
     child-inv : (lo f n t : ℕ) → checkChild L s check lo f ≡ accepted n t → ChildOk L s N lo hi f t n
     unfolding checkChild
     child-inv lo f n t e = go (absent L s f) refl
@@ -54,7 +47,7 @@ module _ (L : Layout) (s : List ℕ) where
         (m + m′, more (child-inv lo _ m u ec) ks refl, omega arith)
 
   body-inv : (N : ℕ → ℕ → ℕ → ℕ → Type 0) (check : ℕ → ℕ → ℕ → Checked)
-      (ih : (hi lo f n t : ℕ) → check hi lo f ≡ accepted n t → Leads N lo hi f n t)
+      (ih : (hi lo f n t : ℕ) → check hi lo f ≡ accepted n t → LeadsToNode L s N lo hi f n t)
       (lo hi p n t : ℕ) → Inside L s lo hi p → (k : Kind) → kind L s p ≡ k → checkBody L s check lo p k ≡ accepted n t
       → NodeOk L s N lo hi p n × (t ≡ p + sizeAt L s p)
   unfolding checkBody
@@ -68,13 +61,13 @@ module _ (L : Layout) (s : List ℕ) where
   body-inv N check ih lo hi p n t ins other ek e = absurd (refused≢accepted _ _ _ e)
 
   -- What an accepting test of a node's place says.
-  record Entered (lo hi : ℕ) (g : Target) (a : Checked) (n t : ℕ) : Type 0 where
+  record PlacePasses (lo hi : ℕ) (g : Destination) (a : Checked) (n t : ℕ) : Type 0 where
     pos : ℕ
     leads : g ≡ at pos
     inside : Inside L s lo hi pos
     opens : a ≡ accepted n t
 
-  at-inv : (lo hi : ℕ) (g : Target) (a : Checked) (n t : ℕ) → checkAt L s hi lo g a ≡ accepted n t → Entered lo hi g a n t
+  at-inv : (lo hi : ℕ) (g : Destination) (a : Checked) (n t : ℕ) → checkAt L s hi lo g a ≡ accepted n t → PlacePasses lo hi g a n t
   unfolding checkAt enter
   at-inv lo hi (at p) a n t e =
       let (el, e₁) = guard-inv (leb lo p) _ _ e in
@@ -82,21 +75,32 @@ module _ (L : Layout) (s : List ℕ) where
       let (ea, e₃) = guard-inv (eqb (p % 8) 0) _ _ e₂ in
       go el ea (kind L s p) refl e₃
     where
-      go : leb lo p ≡ true → eqb (p % 8) 0 ≡ true → (k : Kind) → kind L s p ≡ k → enter L s hi lo p k a ≡ accepted n t → Entered lo hi (at p) a n t
+      go : leb lo p ≡ true → eqb (p % 8) 0 ≡ true → (k : Kind) → kind L s p ≡ k → enter L s hi lo p k a ≡ accepted n t → PlacePasses lo hi (at p) a n t
       go el ea leaf ek e₃ =
           let (es, e₄) = guard-inv (leb (p + leafSize L) hi) _ _ e₃ in
-          record { pos = p; leads = refl; inside = record { low = leb-true _ _ el; high = rw ek (leb-true _ _ es); solid = rw ek (omega arith); aligned = eqb-true _ _ ea }; opens = e₄ }
+          record {
+            pos = p;
+            leads = refl;
+            inside = record { low = leb-true _ _ el; high = rw ek (leb-true _ _ es); solid = rw ek (omega arith); aligned = eqb-true _ _ ea };
+            opens = e₄;
+          }
       go el ea inner ek e₃ =
           let (es, e₄) = guard-inv (leb (p + innerSize L) hi) _ _ e₃ in
-          record { pos = p; leads = refl; inside = record { low = leb-true _ _ el; high = rw ek (leb-true _ _ es); solid = rw ek (omega arith); aligned = eqb-true _ _ ea }; opens = e₄ }
+          record {
+            pos = p;
+            leads = refl;
+            inside = record { low = leb-true _ _ el; high = rw ek (leb-true _ _ es); solid = rw ek (omega arith); aligned = eqb-true _ _ ea };
+            opens = e₄;
+          }
       go el ea other ek e₃ = absurd (refused≢accepted _ _ _ e₃)
   at-inv lo hi below a n t e = absurd (refused≢accepted _ _ _ e)
 
-  pub sound : (d hi lo f n t : ℕ) → checkNode L s d hi lo f ≡ accepted n t → Leads (Holds L s d) lo hi f n t
+  pub sound : (d hi lo f n t : ℕ) → checkNode L s d hi lo f ≡ accepted n t → LeadsToNode L s (Holds L s d) lo hi f n t
   unfolding checkNode
   sound zero hi lo f n t e = absurd (refused≢accepted _ _ _ (at-inv lo hi (target L s f) _ n t e .opens))
   sound (suc d) hi lo f n t e =
       let h = at-inv lo hi (target L s f) _ n t e in
       let eq : place L s (target L s f) ≡ h .pos = ap (place L s) (h .leads) in
-      let b = body-inv (Holds L s d) (checkNode L s d) (λ hi lo f n t. sound d hi lo f n t) lo hi (h .pos) n t (h .inside) (kind L s (h .pos)) refl (rw eq at (h .opens)) in
+      let b = body-inv (Holds L s d) (checkNode L s d) (λ hi lo f n t. sound d hi lo f n t) lo hi (h .pos) n t (h .inside) (kind L s (h .pos)) refl
+      (rw eq at (h .opens)) in
       record { pos = h .pos; leads = h .leads; node = b .0; next = b .1 }

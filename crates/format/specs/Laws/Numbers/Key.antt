@@ -15,7 +15,7 @@ use Rattle.format.specs.declared.Entry.{Entry}
 use Rattle.format.specs.declared.Bound.the-variants.{Included}
 use Rattle.format.specs.Refusal.{Answer, gives, refuses}
 use Rattle.format.specs.Signed.{twos, ofTwos}
-use Rattle.format.specs.Key.{keyOf, packKey, KeyFields, fieldsOf, OfEye, OneSide, Column, columnBounds}
+use Rattle.format.specs.Key.{keyOf, packKey, fieldsOf, OfEye, OneSide, Column, columnBounds, KeyParts}
 use Rattle.format.specs.Range.{matches}
 use Rattle.format.specs.Laws.Numbers.Signed.{twos-lt, ofTwos-low, ofTwos-high, ofTwos-twos, twos-ofTwos}
 
@@ -35,12 +35,14 @@ pub pack-no-pres : (exam eye : ℕ) (x y : ℤ) (pres : ℕ) → exam < 2 ^ 24 �
 unfolding packKey
 pack-no-pres exam eye x y pres f g h = rw (lt-ltb exam (2 ^ 24) f, lt-ltb eye 2 g, le-ltb pres (2 ^ 23) h)
 
-pub pack-given : (exam eye : ℕ) (x y : ℤ) (pres : ℕ) → exam < 2 ^ 24 → eye < 2 → pres < 2 ^ 23 → packKey exam eye x y pres ≡ gives (keyOf exam eye (twos 7 x) (twos 7 y) pres)
+pub pack-given : (exam eye : ℕ) (x y : ℤ) (pres : ℕ) → exam < 2 ^ 24 → eye < 2 → pres < 2 ^ 23
+    → packKey exam eye x y pres ≡ gives (keyOf exam eye (twos 7 x) (twos 7 y) pres)
 unfolding packKey
 pack-given exam eye x y pres f g h = rw (lt-ltb exam (2 ^ 24) f, lt-ltb eye 2 g, lt-ltb pres (2 ^ 23) h)
 
 fields-path : {a b c d e f : ℕ} {u v x y : ℤ} → a ≡ b → c ≡ d → u ≡ v → x ≡ y → e ≡ f
-    → _≡_ {A = KeyFields} (record { examination = a; eye = c; x = u; y = x; presentation = e }) (record { examination = b; eye = d; x = v; y = y; presentation = f })
+    → _≡_ {A = KeyParts} (record { examination = a; eye = c; x = u; y = x; presentation = e })
+    (record { examination = b; eye = d; x = v; y = y; presentation = f })
 fields-path p q r s t = λ j. record { examination = p j; eye = q j; x = r j; y = s j; presentation = t j }
 
 module _ (exam eye x y pres : ℕ) (h₁ : exam < 2 ^ 24) (h₂ : eye < 2) (h₃ : x < 256) (h₄ : y < 256) (h₅ : pres < 2 ^ 23) where
@@ -58,9 +60,6 @@ module _ (exam eye x y pres : ℕ) (h₁ : exam < 2 ^ 24) (h₂ : eye < 2) (h₃
 
   pres-of : keyOf exam eye x y pres % 2 ^ 23 ≡ pres
   pres-of = omega arith
-
-  key-lt : keyOf exam eye x y pres < 2 ^ 64
-  key-lt = omega arith
 
 -- The fields of a packed key are those that were packed.
 pub unpack-pack : (exam eye : ℕ) (x y : ℤ) (pres k : ℕ) → mag x < 128 → mag y < 128 → packKey exam eye x y pres ≡ gives k
@@ -90,7 +89,8 @@ unpack-pack exam eye x y pres k hx hy e = go (decLt exam (2 ^ 24)) (decLt eye 2)
 pub pack-unpack : (k : ℕ) → k < 2 ^ 64 → let p = fieldsOf k in packKey (p .examination) (p .eye) (p .x) (p .y) (p .presentation) ≡ gives k
 pack-unpack k h =
     pack-given (k / 2 ^ 40) (k / 2 ^ 39 % 2) (ofTwos 7 (k / 2 ^ 31 % 256)) (ofTwos 7 (k / 2 ^ 23 % 256)) (k % 2 ^ 23) (omega arith) (omega arith) (omega arith)
-    ∙ ap₂ (λ (x y : ℕ). gives (keyOf (k / 2 ^ 40) (k / 2 ^ 39 % 2) x y (k % 2 ^ 23))) (twos-ofTwos 7 (k / 2 ^ 31 % 256) (omega arith)) (twos-ofTwos 7 (k / 2 ^ 23 % 256) (omega arith))
+    ∙ ap₂ (λ (x y : ℕ). gives (keyOf (k / 2 ^ 40) (k / 2 ^ 39 % 2) x y (k % 2 ^ 23))) (twos-ofTwos 7 (k / 2 ^ 31 % 256) (omega arith))
+    (twos-ofTwos 7 (k / 2 ^ 23 % 256) (omega arith))
     ∙ ap gives (omega (arith, div-div-eq-div-mul k (2 ^ 23) 256, div-div-eq-div-mul k (2 ^ 31) 256, div-div-eq-div-mul k (2 ^ 39) 2))
 
 -- ---- the column query

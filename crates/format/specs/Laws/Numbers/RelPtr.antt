@@ -1,18 +1,15 @@
 -- Laws of relative pointers: one for each way an offset is made or followed. Assumes nothing.
-use mathlib.Core.Path.{_≡_, refl, sym, ap, _∙_}
+use mathlib.Core.Path.{_≡_, refl, ap}
 use mathlib.Core.Bool.{Bool, true, false}
 use Prim.Native.Nat.{ℕ, suc, _+_, _-_, _^_, _≤_, _<_}
 use native.Mathlib.Nat.{mod-eq-of-lt}
 use native.Mathlib.Omega.{arith}
-use borrow.Author.Tests.{lt-ltb, le-ltb, ltb-true, ltb-false}
+use borrow.Author.Tests.{lt-ltb, le-ltb}
 use lib.IntN.{ℤ, pos, negsuc, subℕ, _+ℤ_}
-use lib.Signed.{mag, ltZ}
-use lib.Pow.{pow-pos}
+use lib.Signed.{mag}
 use lib.Dec.{ltb}
 use Rattle.format.specs.Refusal.{gives, refuses, provided}
-use Rattle.format.specs.Signed.{twos, ofTwos}
 use Rattle.format.specs.RelPtr.{fitSigned, signedOffset, storedOffset, absentOffset, at, below, position}
-use Rattle.format.specs.Laws.Numbers.Signed.{twos-lt, ofTwos-low, ofTwos-high, ofTwos-twos}
 
 -- ---- where an offset leads
 
@@ -35,19 +32,6 @@ pub fits-refused : (h n : ℕ) (z : ℤ) → 2 ^ h ≤ mag z → fitSigned h n z
 unfolding fitSigned
 fits-refused h n z l = rw (le-ltb (mag z) (2 ^ h) l)
 
--- What the code learns from its two tests, below the least number of h + 1 bits and above the greatest.
-pub below-refused : (h n : ℕ) (z : ℤ) → ltZ z (negsuc (2 ^ h - 1)) ≡ true → fitSigned h n z ≡ refuses n
-below-refused h n (pos m) e = let x : _≡_ {A = ℕ} 0 1 = cc in absurd (omega arith)
-below-refused h n (negsuc m) e = fits-refused h n (negsuc m) (omega (arith, ltb-true (2 ^ h - 1) m e, pow-pos h))
-
-pub above-refused : (h n : ℕ) (z : ℤ) → ltZ (pos (2 ^ h - 1)) z ≡ true → fitSigned h n z ≡ refuses n
-above-refused h n (pos m) e = fits-refused h n (pos m) (omega (arith, ltb-true (2 ^ h - 1) m e, pow-pos h))
-above-refused h n (negsuc m) e = let x : _≡_ {A = ℕ} 0 1 = cc in absurd (omega arith)
-
-pub in-range : (h : ℕ) (z : ℤ) → ltZ z (negsuc (2 ^ h - 1)) ≡ false → ltZ (pos (2 ^ h - 1)) z ≡ false → mag z < 2 ^ h
-in-range h (pos n) e f = omega (arith, ltb-false (2 ^ h - 1) n f, pow-pos h)
-in-range h (negsuc n) e f = omega (arith, ltb-false (2 ^ h - 1) n e, pow-pos h)
-
 pub offset-ahead : (from to : ℕ) → from ≤ to → signedOffset from to ≡ fitSigned 63 15 (pos (to - from))
 unfolding signedOffset
 offset-ahead from to l = rw (le-ltb to from l)
@@ -57,7 +41,7 @@ unfolding signedOffset
 offset-behind from to l = rw (lt-ltb to from l) (ap (λ (d : ℕ). fitSigned 63 15 (negsuc d)) (omega arith))
 
 -- The stored offset, by what the signed difference answers.
-pub stored-refused : (h from to n : ℕ) → signedOffset from to ≡ refuses n → storedOffset h from to ≡ refuses n
+stored-refused : (h from to n : ℕ) → signedOffset from to ≡ refuses n → storedOffset h from to ≡ refuses n
 unfolding storedOffset
 stored-refused h from to n e = rw e
 
@@ -83,20 +67,3 @@ only false n k z e = refl
 pub stored-15 : (h from to k : ℕ) → signedOffset from to ≡ refuses k → storedOffset h from to ≡ refuses 15
 unfolding signedOffset fitSigned
 stored-15 h from to k e = stored-refused h from to 15 (only (ltb (mag (subℕ to from)) (2 ^ 63)) 15 k (subℕ to from) e)
-
--- ---- where the offset z leads from p, by its bits b
-
-module _ (h p b : ℕ) (z : ℤ) (f : mag z < 2 ^ h) (e : b ≡ twos h z) where
-  value : z ≡ ofTwos h b
-  value = sym (ofTwos-twos h z f) ∙ ap (ofTwos h) (sym e)
-
-  pub bits-on : b < 2 ^ h → position (pos p +ℤ z) ≡ at (p + b)
-  bits-on l = leads-on p b z (value ∙ ofTwos-low h b l)
-
-  pub bits-below : 2 ^ h ≤ b → p < 2 ^ suc h - b → position (pos p +ℤ z) ≡ below
-  bits-below g l = leads-below p (2 ^ suc h - suc b) z (value ∙ ofTwos-high h b g) (omega arith)
-
-  pub bits-back : 2 ^ h ≤ b → 2 ^ suc h - b ≤ p → position (pos p +ℤ z) ≡ at (p - (2 ^ suc h - b))
-  bits-back g l =
-      let k = twos-lt h z f in
-      leads-back p (2 ^ suc h - suc b) z (value ∙ ofTwos-high h b g) (omega arith) ∙ ap at (omega arith)

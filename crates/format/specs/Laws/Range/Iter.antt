@@ -12,16 +12,17 @@ use Rattle.format.specs.declared.Bound.{Bound}
 use Rattle.format.specs.declared.Bound.the-variants.{Included, Excluded, Unbounded}
 use Rattle.format.specs.Layout.{Layout, Limits, nested}
 use Rattle.format.specs.Bytes.{leAt}
-use Rattle.format.specs.RelPtr.{Target, at, below, target, absent}
+use Rattle.format.specs.RelPtr.{at, below, target, absent, Destination}
 use Rattle.format.specs.Node.{Kind, leaf, inner, other, child, keyAt, kind, leafCount, slot}
 use Rattle.format.specs.Check.{root, recorded}
 use Rattle.format.specs.Entries.{listAt, listOf, list}
 use Rattle.format.specs.Certify.{Above, Ascending}
 use Rattle.format.specs.Range.{meetsLower, meetsUpper, matches, select, crosses, range}
-use Rattle.format.specs.RangeIter.{Frame, frame, RangeIter, along, alongChild, seekSlots, seekChildren, seekBody, seek, push, keep, onward, ends, over, item, nextOf, next, lowerStack, firstPast, cleared, newOf, new, Yields, finished, yields}
-use Rattle.format.specs.Laws.Check.Archive.{Rooted}
-use Rattle.format.specs.Laws.Certify.Certified.{Certified}
-use Rattle.format.specs.Laws.Range.List.{dropTo, takeTo, past, Rises, lower-rises, past-rises, drop-none, drop-all, ascending-drop, matches-none, select-ascending, crossed-fails, drop-past}
+use Rattle.format.specs.RangeIter.{Frame, frame, RangeIter, along, alongChild, seekSlots, seekChildren, seekBody, seek, push, keep, onward}
+use Rattle.format.specs.RangeIter.{ends, over, item, nextOf, next, lowerStack, firstPast, cleared, newOf, new, Yields, finished, yields}
+use Rattle.format.specs.Accepted.{Rooted, Certified}
+use Rattle.format.specs.Laws.Range.List.{dropTo, takeTo, past, Rises, lower-rises, past-rises, drop-none, drop-all, ascending-drop}
+use Rattle.format.specs.Laws.Range.List.{matches-none, select-ascending, crossed-fails, drop-past}
 use Rattle.format.specs.Laws.Range.Stack.{Full, Stack, bottom, upon, leftmost-stack, onward-stack, seek-stack}
 
 -- Where the bounds cross, no entry of any list matches.
@@ -37,7 +38,7 @@ module _ (L : Layout) (s : List ℕ) {A B : Type 0} (note : ℕ → ℕ → A �
   unfolding alongChild along
   child-turns go go′ ih g a = by (absent L s g) (target L s g) refl refl
     where
-      by : (b : Bool) (t : Target) → absent L s g ≡ b → target L s g ≡ t → turn (alongChild L s go g a) ≡ alongChild L s go′ g (turn a)
+      by : (b : Bool) (t : Destination) → absent L s g ≡ b → target L s g ≡ t → turn (alongChild L s go g a) ≡ alongChild L s go′ g (turn a)
       by true t ea et = rw (ea, alongChild)
       by false (at q) ea et = rw (ea, alongChild, et) (ih q a)
       by false below ea et = rw (ea, alongChild, et)
@@ -76,11 +77,11 @@ module _ (L : Layout) (s : List ℕ) {A B : Type 0} (note : ℕ → ℕ → A �
 
 module _ (L : Layout) where
   -- The position of an entry's key, by that of its value.
-  abbrev pub keyPosition : Entry → ℕ
+  abbrev keyPosition : Entry → ℕ
   keyPosition e = e .position .0 - 8 * L .entries
 
   -- The position of a list's first key.
-  abbrev pub firstKey : List Entry → Option ℕ
+  abbrev firstKey : List Entry → Option ℕ
   firstKey [] = none
   firstKey (e ∷ l) = some (keyPosition e)
 
@@ -91,7 +92,7 @@ module _ (L : Layout) where
 
 module _ (L : Layout) (s : List ℕ) where
   -- Of a slot, the two agree.
-  pub slot-key : (p i : ℕ) → keyPosition L (slot L s p i) ≡ keyAt L p i
+  slot-key : (p i : ℕ) → keyPosition L (slot L s p i) ≡ keyAt L p i
   unfolding slot
   slot-key p i = omega arith
 
@@ -117,7 +118,8 @@ module _ (L : Layout) (M : Limits) (s : List ℕ) where
   stack-runs pos (x ∷ xs) st (upon {p} {i} {st = st′} {l = l} d h f t z) = gave (stack-runs pos xs _ (onward-stack L s (nested M) pos d p i st′ l h f t z))
 
   -- A slot's key does not stand at the end if the end is a key of the entries that follow, which are above it.
-  not-end : (f : Entry → Bool) (p i : ℕ) {st : List Frame} {l : List Entry} → Runs st l → Above ((slot L s p i) .key) l → ends L s (firstKey L (dropTo f l)) p i ≡ false
+  not-end : (f : Entry → Bool) (p i : ℕ) {st : List Frame} {l : List Entry} → Runs st l → Above ((slot L s p i) .key) l
+      → ends L s (firstKey L (dropTo f l)) p i ≡ false
   not-end f p i done a = refl
   not-end f p i (gave {p = q} {i = j} {l = l} r) a = by (f (slot L s q j)) refl (not-end f p i r (a .1))
     where
@@ -146,7 +148,8 @@ module _ (L : Layout) (M : Limits) (s : List ℕ) where
           let e : nextOf L M s (frame p i ∷ st) (firstKey L (dropTo (past hi) l)) ≡ item x it = rw (not-end (past hi) p i r (a .0), nextOf) in
           rw (eb, dropTo, takeTo) (yields it e y)
       by false eb y =
-          let e : nextOf L M s (frame p i ∷ st) (some (keyPosition L x)) ≡ over = rw (eq-eqb (keyAt L p i) (keyPosition L x) (sym (slot-key L s p i)), nextOf) in
+          let e : nextOf L M s (frame p i ∷ st) (some (keyPosition L x)) ≡ over =
+          rw (eq-eqb (keyAt L p i) (keyPosition L x) (sym (slot-key L s p i)), nextOf) in
           rw (eb, dropTo, takeTo) (finished e)
 
   -- An iterator that is over gives nothing.
@@ -170,10 +173,10 @@ module _ (L : Layout) (M : Limits) (s : List ℕ) where
 
   -- The archive's root is full, and gives the list.
   module _ (C : Certified L M s) (R : Rooted L M s) (h : 0 < recorded L s) where
-    pub root-full : Full L s (nested M) (R .pos)
+    root-full : Full L s (nested M) (R .pos)
     root-full = record { lo = 0; hi = root L s; n = recorded L s; holds = R .valid .holds; solid = C .firm h R }
 
-    pub list-is : list L M s ≡ listAt L s (nested M) (R .pos)
+    list-is : list L M s ≡ listAt L s (nested M) (R .pos)
     unfolding list
     list-is = by (recorded L s) refl
       where
@@ -191,7 +194,7 @@ module _ (L : Layout) (M : Limits) (s : List ℕ) where
         sym (seek-turns L s (push L s) (keep L s) (topKey L) (λ p i a. refl) f (nested M) (R .pos) []) ∙ top-first L s (nested M) (seek-root f rises)
 
     -- `init_stack_for_lower`: the stack has to give the list from the first entry on that meets the lower bound.
-    pub lower-stack : 0 < L .entries → (lo : Bound) → Stack L s (nested M) (lowerStack L M s lo) (dropTo (meetsLower lo) (list L M s))
+    lower-stack : 0 < L .entries → (lo : Bound) → Stack L s (nested M) (lowerStack L M s lo) (dropTo (meetsLower lo) (list L M s))
     unfolding lowerStack along
     lower-stack pos (Included k) = rw (R .leads) (seek-root (meetsLower (Included k)) (lower-rises (Included k)))
     lower-stack pos (Excluded k) = rw (R .leads) (seek-root (meetsLower (Excluded k)) (lower-rises (Excluded k)))
@@ -199,7 +202,7 @@ module _ (L : Layout) (M : Limits) (s : List ℕ) where
         (leftmost-stack L s (nested M) pos true (nested M) (nested M) (omega arith) (omega arith) (R .pos) [] [] root-full bottom)
 
     -- `find_first_past_upper`: the position of the first key past the upper bound.
-    pub first-past : (hi : Bound) → firstPast L M s hi ≡ firstKey L (dropTo (past hi) (list L M s))
+    first-past : (hi : Bound) → firstPast L M s hi ≡ firstKey L (dropTo (past hi) (list L M s))
     unfolding firstPast along
     first-past (Included k) = rw (R .leads) (seek-top (past (Included k)) (past-rises (Included k)))
     first-past (Excluded k) = rw (R .leads) (seek-top (past (Excluded k)) (past-rises (Excluded k)))
@@ -207,12 +210,14 @@ module _ (L : Layout) (M : Limits) (s : List ℕ) where
 
     -- The iterator that `new` makes where the record's count is above 0.
     start-yields : 0 < L .entries → (lo hi : Bound) → crosses lo hi ≡ false
-        → Yields L M s (record { stack = cleared L M s (lowerStack L M s lo) (firstPast L M s hi); end = firstPast L M s hi }) (select (matches lo hi) (list L M s))
+        → Yields L M s (record { stack = cleared L M s (lowerStack L M s lo) (firstPast L M s hi); end = firstPast L M s hi })
+        (select (matches lo hi) (list L M s))
     start-yields pos lo hi c =
         rw (select-ascending lo hi (list L M s) (C .ascending))
         (cleared-yields (lowerStack L M s lo) (firstPast L M s hi) _
         (rw (first-past hi, ← (drop-past lo hi c (list L M s)))
-        (runs-yields hi (stack-runs pos (dropTo (meetsLower lo) (list L M s)) _ (lower-stack pos lo)) (ascending-drop (meetsLower lo) (list L M s) (C .ascending)))))
+        (runs-yields hi (stack-runs pos (dropTo (meetsLower lo) (list L M s)) _ (lower-stack pos lo))
+        (ascending-drop (meetsLower lo) (list L M s) (C .ascending)))))
 
   -- On certified bytes, where the bounds do not cross, the iterator gives the range: every entry that matches, in order, and then nothing.
   pub range-yields : 0 < L .entries → Certified L M s → (lo hi : Bound) → crosses lo hi ≡ false → Yields L M s (new L M s lo hi) (range L M s lo hi)

@@ -1,10 +1,11 @@
 -- Ranges of an ascending list: the entries that match are those from the first that meets the lower bound on, before the first past the upper
 -- bound. Assumes nothing.
-use Prim.Native.Nat.{ℕ, _<_}
+use Prim.Native.Nat.{_<_, _≤_}
 use mathlib.Core.Path.{_≡_, refl, ap}
 use mathlib.Core.Bool.{Bool, true, false, not}
 use mathlib.Core.List.{List, [], _∷_, _++_}
 use native.Mathlib.Omega.{arith}
+use lib.ListN.{length}
 use borrow.Author.Tests.{ltb-true, ltb-false, leb-true, leb-false, lt-ltb, le-leb, lt-leb, le-ltb, not-true}
 use Rattle.format.specs.declared.Entry.{Entry}
 use Rattle.format.specs.declared.Bound.{Bound}
@@ -38,7 +39,7 @@ lower-rises (Excluded k) x y h e = lt-ltb k (y .key) (omega (arith, ltb-true))
 lower-rises Unbounded x y h e = refl
 
 -- No key above one that fails an upper bound meets that bound.
-pub upper-falls : (hi : Bound) (x y : Entry) → x .key < y .key → meetsUpper hi x ≡ false → meetsUpper hi y ≡ false
+upper-falls : (hi : Bound) (x y : Entry) → x .key < y .key → meetsUpper hi x ≡ false → meetsUpper hi y ≡ false
 upper-falls (Included k) x y h e = lt-leb (y .key) k (omega (arith, leb-false))
 upper-falls (Excluded k) x y h e = le-ltb (y .key) k (omega (arith, ltb-false))
 upper-falls Unbounded x y h e = e
@@ -77,14 +78,6 @@ module _ (f : Entry → Bool) where
     pub drop-miss : (l r : List Entry) (e : Entry) → f e ≡ false → Under (e .key) l → dropTo f (l ++ e ∷ r) ≡ dropTo f r
     drop-miss [] r e h u = rw (h, dropTo)
     drop-miss (x ∷ xs) r e h u = let eb = under-fails e h x (u .0) in rw (eb, dropTo) (drop-miss xs r e h (u .1))
-
-  above-drop : (k : ℕ) (l : List Entry) → Above k l → Above k (dropTo f l)
-  above-drop k [] a = tt
-  above-drop k (x ∷ xs) a = by (f x) refl (above-drop k xs (a .1))
-    where
-      by : (b : Bool) → f x ≡ b → Above k (dropTo f xs) → Above k (dropTo f (x ∷ xs))
-      by true eb ih = rw (eb, dropTo) a
-      by false eb ih = rw (eb, dropTo) ih
 
   -- What is left ascends.
   pub ascending-drop : (l : List Entry) → Ascending l → Ascending (dropTo f l)
@@ -165,3 +158,13 @@ drop-past lo hi c (x ∷ xs) = by (meetsLower lo x) refl (drop-past lo hi c xs)
         → dropTo (past hi) (dropTo (meetsLower lo) (x ∷ xs)) ≡ dropTo (past hi) (x ∷ xs)
     by true eb ih = rw (eb, dropTo)
     by false eb ih = let eu = uncrossed-meets lo hi c x eb in rw (eb, eu, dropTo) ih
+
+-- ---- how many entries pass a test
+
+pub select-few : (f : Entry → Bool) (es : List Entry) → length (select f es) ≤ length es
+select-few f [] = omega arith
+select-few f (e ∷ es) = by (f e) refl (select-few f es)
+  where
+    by : (b : Bool) → f e ≡ b → length (select f es) ≤ length es → length (select f (e ∷ es)) ≤ length (e ∷ es)
+    by true eb ih = rw (eb, select) (omega arith)
+    by false eb ih = rw (eb, select) (omega arith)

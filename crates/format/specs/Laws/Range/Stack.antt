@@ -15,16 +15,16 @@ use Rattle.format.specs.Node.{Kind, leaf, inner, other, child, kind, lea
 use Rattle.format.specs.Entries.{slots, listChild, listChildren, listBody, listAt}
 use Rattle.format.specs.Certify.{Ascending, hollow, anyChild, anyChildren, anyBody, hollowAt}
 use Rattle.format.specs.RangeIter.{Frame, frame, along, alongChild, leftmostBody, leftmost, seekSlots, seekChildren, seekBody, seek, push, onward}
+use Rattle.format.specs.NodeRelation.{ChildOk, gone, there, ChildrenOk, last, more, NodeOk, leafOk, innerOk, Holds}
 use Rattle.format.specs.Laws.Certify.Ascend.{Split, split}
 use Rattle.format.specs.Laws.Certify.Certified.{or-left, or-right}
 use Rattle.format.specs.Laws.Check.Complete.{holds-same}
 use Rattle.format.specs.Laws.Range.List.{dropTo, Rises, drop-hit, drop-miss}
-use Rattle.format.specs.Laws.Check.Reach.{true≢false, children-of}
-use Rattle.format.specs.Laws.Check.Valid.{Nth, this, next, nth-of, ChildOk, gone, there, ChildrenOk, last, more, NodeOk, leafOk, innerOk, Holds}
+use Rattle.format.specs.Laws.Check.Reach.{true≢false, children-of, Nth, this, next, nth-of}
 
 module _ (L : Layout) (s : List ℕ) where
   -- The node at p, of kind c, has a slot i.
-  abbrev pub HasSlot : ℕ → ℕ → Kind → Type 0
+  abbrev HasSlot : ℕ → ℕ → Kind → Type 0
   HasSlot p i leaf = i < leafCount L s p
   HasSlot p i inner = i < L .entries
   HasSlot p i other = ⊥
@@ -51,19 +51,19 @@ module _ (L : Layout) (s : List ℕ) where
   children-full d {p} {k} {i} (more c ks en) e (next x) pr = children-full d ks (or-right (anyChild L s (hollowAt L s d) (child L p i)) _ e) x pr
 
   -- A child of a full inner node, unless absent, leads to a full node.
-  pub full-child : (d p j : ℕ) → Full (suc d) p → kind L s p ≡ inner → j ≤ L .entries → absent L s (child L p j) ≡ false
+  full-child : (d p j : ℕ) → Full (suc d) p → kind L s p ≡ inner → j ≤ L .entries → absent L s (child L p j) ≡ false
       → (q : ℕ) × (target L s (child L p j) ≡ at q) × Full d q
   unfolding hollowAt anyBody
   full-child d p j f ek h pr =
       children-full d (children-of L s (Holds L s d) (f .holds) ek .1) (rw ek at (or-right (hollow L s p (kind L s p)) _ (f .solid))) (nth-of h) pr
 
   -- The first child of a full inner node is not absent.
-  pub full-first : (d p : ℕ) → Full (suc d) p → kind L s p ≡ inner → absent L s (child L p 0) ≡ false
+  full-first : (d p : ℕ) → Full (suc d) p → kind L s p ≡ inner → absent L s (child L p 0) ≡ false
   unfolding hollowAt hollow
   full-first d p f ek = rw ek at (or-left (hollow L s p (kind L s p)) _ (f .solid))
 
   -- A full node has a first slot.
-  pub full-slot : (d p : ℕ) → 0 < L .entries → Full (suc d) p → HasSlot p 0 (kind L s p)
+  full-slot : (d p : ℕ) → 0 < L .entries → Full (suc d) p → HasSlot p 0 (kind L s p)
   unfolding hollowAt hollow
   full-slot d p pos f = by (f .holds) (or-left (hollow L s p (kind L s p)) _ (f .solid))
     where
@@ -208,7 +208,7 @@ module _ (L : Layout) (s : List ℕ) where
           by other ek t = absurd t
 
     -- A node to search: full, with keys that ascend.
-    abbrev pub Ordered : ℕ → ℕ → Type 0
+    abbrev Ordered : ℕ → ℕ → Type 0
     Ordered d q = Full d q × Ascending (listAt L s fuel q)
 
     module _ (f : Entry → Bool) where
@@ -267,10 +267,12 @@ module _ (L : Layout) (s : List ℕ) where
         seek-stack zero c hc hf q st l x z = absurd (x .0 .holds)
         seek-stack (suc d) zero hc hf q st l x z = absurd (omega arith)
         seek-stack (suc d) (suc c) hc hf q st l x z =
-            rw (full-body (suc d) q hf (x .0)) (by (kind L s q) refl (rw (full-body (suc d) q hf (x .0)) at (x .1)) (seek-stack d c (omega arith) (omega arith)))
+            rw (full-body (suc d) q hf (x .0))
+            (by (kind L s q) refl (rw (full-body (suc d) q hf (x .0)) at (x .1)) (seek-stack d c (omega arith) (omega arith)))
           where
             by : (k : Kind) → kind L s q ≡ k → Ascending (listBody L s (listAt L s fuel) q k)
-                → ((q : ℕ) (st : List Frame) (l : List Entry) → Ordered d q → Stack st l → Stack (seek L s (push L s) f c q st) (dropTo f (listAt L s fuel q) ++ l))
+                → ((q : ℕ) (st : List Frame) (l : List Entry) → Ordered d q → Stack st l
+                → Stack (seek L s (push L s) f c q st) (dropTo f (listAt L s fuel q) ++ l))
                 → Stack (seekBody L s (push L s) f (seek L s (push L s) f c) q k st) (dropTo f (listBody L s (listAt L s fuel) q k) ++ l)
             by leaf ek a ih = slots-stack d q (leafCount L s q) 0 st l hf (x .0) ek (omega arith) z
             by inner ek a ih = children-stack d q (L .entries) 0 (seek L s (push L s) f c) st l ih hf (x .0) ek (omega arith) a z

@@ -13,8 +13,8 @@ use Rattle.format.specs.Certify.{Ascending}
 use Rattle.format.specs.Range.{matches}
 use Rattle.format.specs.Laws.Read.Node.{as-leaf, as-inner, node-room, child-falls}
 use Rattle.format.specs.Laws.Read.Written.{runs-none}
-use Rattle.format.specs.Laws.Range.Ranged.{sink, ranged}
-use Rattle.btree.specs.NextChild.{next-child}
+use Rattle.ranges.specs.Sink.{sink, ranged}
+use Rattle.btree.proofs.NextChild.{next-child}
 use Rattle.btree.proofs.Runs.{leaf-run, child-run, child-skipped}
 use Rattle.ranges.proofs.Ranges.{rest, at-child, leaf-ascends, inner-ascends, rest-ascends, child-ascends, last-ascends, not-leaf}
 use Rattle.ranges.proofs.Ranges.{slot-low, slot-past, slot-matches, inner-pass, inner-stop, inner-take, inner-end}

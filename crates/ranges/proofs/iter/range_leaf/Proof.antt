@@ -11,7 +11,7 @@ use Rattle.format.specs.Node.{slot}
 use Rattle.format.specs.Entries.{slots}
 use Rattle.format.specs.Range.{matches}
 use Rattle.format.specs.Certify.{Ascending}
-use Rattle.format.specs.Laws.Range.Ranged.{sink, ranged}
+use Rattle.ranges.specs.Sink.{sink, ranged}
 use Rattle.btree.proofs.Runs.{leaf-done}
 use Rattle.ranges.proofs.Ranges.{slot-low, slot-past, slot-matches, slots-ascend, slots-rest, leaf-pass, leaf-stop, leaf-take, leaf-fits}
 use Rattle.ranges.proofs.iter.range_leaf.Statement.{statement}

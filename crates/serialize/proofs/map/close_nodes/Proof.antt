@@ -1,7 +1,6 @@
 -- `serialize::map::close_nodes` meets its contract. Assumes nothing.
 use borrow.Author.Needs.{needs}
 use mathlib.Core.Path.{refl}
-use Prim.Native.Nat.{_-_}
 use native.Mathlib.Omega.{arith}
 use denote.Ref.{now}
 use Rattle.serialize.proofs.Leaves.{turns-up}

@@ -2,7 +2,6 @@
 use borrow.Author.Needs.{needs}
 use native.Mathlib.Omega.{arith}
 use mathlib.Core.Path.{refl}
-use Prim.Native.Nat.{_-_}
 use Rattle.serialize.proofs.map.cross_at.Statement.{statement}
 use Rattle.serialize.proofs.map.cross_at.Tie as tie
 

@@ -1,6 +1,5 @@
 -- `serialize::map::leaf_at` meets its contract. Assumes nothing.
 use borrow.Author.Needs.{needs}
-use Prim.Native.Nat.{_-_}
 use native.Mathlib.Nat.{add-zero}
 use Rattle.serialize.proofs.map.leaf_at.Statement.{statement}
 use Rattle.serialize.proofs.map.leaf_at.Tie as tie

@@ -1,5 +1,4 @@
 -- `serialize::map::resolve_from_len` meets its contract. Assumes nothing.
-use Prim.Native.Nat.{_-_}
 use denote.Ref.{now}
 use Rattle.nodes.specs.Nodes.{childAt}
 use Rattle.serialize.proofs.Whole.{record-by}

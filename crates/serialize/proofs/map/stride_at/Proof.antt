@@ -1,7 +1,6 @@
 -- `serialize::map::stride_at` meets its contract. Assumes nothing.
 use borrow.Author.Needs.{needs}
 use native.Mathlib.Omega.{arith}
-use Prim.Native.Nat.{_-_}
 use denote.Ref.{now}
 use Rattle.serialize.proofs.Leaves.{strides-at-none}
 use Rattle.serialize.proofs.map.stride_at.Statement.{statement}

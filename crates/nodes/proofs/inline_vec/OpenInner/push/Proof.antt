@@ -2,7 +2,6 @@
 use borrow.Author.Needs.{needs}
 use native.Mathlib.Omega.{arith}
 use mathlib.Core.Logic.{inl, inr}
-use Prim.Native.Nat.{_-_}
 use Rattle.nodes.proofs.Laws.{push-came}
 use Rattle.nodes.proofs.inline_vec.OpenInner.push.Statement.{statement}
 use Rattle.nodes.proofs.inline_vec.OpenInner.push.Tie as tie

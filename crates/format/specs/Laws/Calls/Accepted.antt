@@ -1,32 +1,29 @@
--- From the answers of check and certify to what the readers require, and to what each call answers: on refused bytes, at count 0, and above 0 where
--- all is read off the root's node. Assumes nothing.
+-- From the answer of check to what the readers require, and to what check's readers and certify answer: on refused bytes, at count 0, and above 0
+-- where all is read off the root's node. Assumes nothing.
 use Prim.Native.Nat.{ℕ, zero, suc, _-_, _≤_, _<_}
 use mathlib.Core.Path.{_≡_, refl, sym, _∙_, ap, subst}
 use mathlib.Core.Bool.{Bool, true, false}
 use mathlib.Core.List.{List, []}
-use mathlib.Core.Logic.{_↔_}
 use native.Mathlib.Omega.{arith}
 use lib.ListN.{length}
-use lib.IntN.{ℤ}
 use Rattle.format.specs.declared.Entry.{Entry}
 use Rattle.format.specs.declared.Found.{Found}
-use Rattle.format.specs.declared.Bound.{Bound}
 use Rattle.format.specs.declared.Found.the-variants.{Nothing as nothing}
 use Rattle.format.specs.Layout.{Layout, recordSize, Limits, nested}
 use Rattle.format.specs.Refusal.{gives, refuses}
 use Rattle.format.specs.RelPtr.{at, target}
-use Rattle.format.specs.Key.{Column, columnBounds}
 use Rattle.format.specs.Check.{Checked, accepted, refused, counted, root, recorded, checkArchive}
 use Rattle.format.specs.Entries.{listAt, listOf, list}
-use Rattle.format.specs.Certify.{Ascending, ascends, Solid, hollowAt, hollowOf, certify}
+use Rattle.format.specs.Certify.{ascends, hollowAt, hollowOf, certify}
 use Rattle.format.specs.Lookup.{bytesOf, placeOf, lookupAt, lookupOf, lookup}
-use Rattle.format.specs.Range.{matches, select, range}
-use Rattle.format.specs.Written.{written, keysAfter, valuesAfter}
-use Rattle.format.specs.Calls.{lookupCall, bytesCall, placeCall, walkCall, walkKeys, walkValues, rangeCall, rangeKeys, rangeValues, columnCall, columnKeys, columnValues}
-use Rattle.format.specs.Laws.Check.Archive.{Rooted, Archive, archive}
-use Rattle.format.specs.Laws.Certify.Certified.{Certified, certified, certify-accepts, certify-hollow, certify-order, certify-passes, certify-refused, exactly}
-use Rattle.format.specs.Laws.Read.Node.{Down, Node, root-down, root-node}
-use Rattle.format.specs.Laws.Read.Written.{Out, out, walked, none-walked}
+use Rattle.format.specs.Written.{written, keysAfter, valuesAfter, Out, out, walked}
+use Rattle.format.specs.Calls.{lookupCall, bytesCall, placeCall, walkCall, walkKeys, walkValues}
+use Rattle.format.specs.Accepted.{Rooted, Archive}
+use Rattle.format.specs.Readable.{Down, Node}
+use Rattle.format.specs.Laws.Check.Archive.{archive}
+use Rattle.format.specs.Laws.Certify.Certified.{certify-hollow, certify-order, certify-passes, certify-refused}
+use Rattle.format.specs.Laws.Read.Node.{root-down, root-node}
+use Rattle.format.specs.Laws.Read.Written.{none-walked}
 
 pub gives-inv : (a : Checked) (n : ℕ) → counted a ≡ gives n → (t : ℕ) × (a ≡ accepted n t)
 gives-inv (accepted m t) n e = let z : m ≡ n = cc in (t, ap (λ (x : ℕ). accepted x t) z)
@@ -70,24 +67,6 @@ module _ (L : Layout) (M : Limits) (s : List ℕ) where
       pub walk-values-refuses : walkValues L M s ks vs ≡ vs
       unfolding walkValues
       walk-values-refuses = rw (refuses-all, walkValues)
-
-  -- ---- bytes that certify refuses
-
-  module _ (r : ℕ) (e : counted (certify L M s) ≡ refuses r) (lo hi : Bound) (ks vs : List ℕ) where
-    uncertified : certify L M s ≡ refused r
-    uncertified = refuses-inv (certify L M s) r e
-
-    pub range-refuses : rangeCall L M s lo hi ks vs ≡ refuses r
-    unfolding rangeCall
-    range-refuses = rw (uncertified, rangeCall)
-
-    pub range-keys-refuses : rangeKeys L M s lo hi ks vs ≡ ks
-    unfolding rangeKeys
-    range-keys-refuses = rw (uncertified, rangeKeys)
-
-    pub range-values-refuses : rangeValues L M s lo hi ks vs ≡ vs
-    unfolding rangeValues
-    range-values-refuses = rw (uncertified, rangeValues)
 
   -- ---- bytes that check accepts
 
@@ -263,127 +242,3 @@ module _ (L : Layout) (M : Limits) (s : List ℕ) where
 
           pub walk-values-gives : walkValues L M s ks vs ≡ vs′
           walk-values-gives = walk-values-accepted ks vs ∙ ap (λ (x : Out). x .values) whole
-
-  -- Accepted bytes are certified, with the same count, exactly when the list's keys ascend and no reachable node is hollow.
-  pub certified-exactly : (n : ℕ) → counted (checkArchive L M s) ≡ gives n → (counted (certify L M s) ≡ gives n) ↔ (Ascending (list L M s) × Solid L s)
-  certified-exactly n e =
-      let t = gives-inv (checkArchive L M s) n e .0 in
-      let accepts-n : checkArchive L M s ≡ accepted n t = gives-inv (checkArchive L M s) n e .1 in (
-        λ c.
-            let u = gives-inv (certify L M s) n c .0 in
-            let C = certified L M s n u (gives-inv (certify L M s) n c .1) .0 in
-            (C .ascending, C .solid),
-        λ h. ap counted (exactly L M s n t accepts-n .1 h),
-      )
-
-  -- ---- bytes that certify accepts
-
-  module _ (n : ℕ) (e : counted (certify L M s) ≡ gives n) where
-    certifies : certify L M s ≡ accepted n (gives-inv (certify L M s) n e .0)
-    certifies = gives-inv (certify L M s) n e .1
-
-    pub is-certified : Certified L M s
-    is-certified = certified L M s n (gives-inv (certify L M s) n e .0) certifies .0
-
-    -- Check accepts them too, with the same answer.
-    pub certified-accepts : counted (checkArchive L M s) ≡ gives n
-    certified-accepts = ap counted (certify-accepts L M s n (gives-inv (certify L M s) n e .0) certifies)
-
-    -- The keys below the root ascend.
-    pub ascending-root : (n ≡ 0 → ⊥) → (q : ℕ) → target L s (length s - recordSize L) ≡ at q → Ascending (listAt L s (nested M) q)
-    ascending-root z q t = subst Ascending (list-root n certified-accepts z q t) (is-certified .ascending)
-
-    module _ (lo hi : Bound) (ks vs : List ℕ) where
-      pub range-certified : rangeCall L M s lo hi ks vs ≡ gives (record { written = written (range L M s lo hi) ks vs; matching = length (range L M s lo hi) })
-      unfolding rangeCall
-      range-certified = rw (certifies, rangeCall)
-
-      pub range-keys-certified : rangeKeys L M s lo hi ks vs ≡ keysAfter (range L M s lo hi) ks vs
-      unfolding rangeKeys
-      range-keys-certified = rw (certifies, rangeKeys)
-
-      pub range-values-certified : rangeValues L M s lo hi ks vs ≡ valuesAfter (range L M s lo hi) ks vs
-      unfolding rangeValues
-      range-values-certified = rw (certifies, rangeValues)
-
-      -- The answer, where es is the range, m of them match, and ks′ and vs′ are what writing them leaves.
-      module _ (es : List Entry) (ee : range L M s lo hi ≡ es) (m : ℕ) (em : m ≡ length es) (ks′ vs′ : List ℕ) (w : ℕ)
-          (ew : out ks′ vs′ w ≡ walked es ks vs) where
-        whole-range : walked (range L M s lo hi) ks vs ≡ out ks′ vs′ w
-        whole-range = rw ee (sym ew)
-
-        range-answers : rangeCall L M s lo hi ks vs ≡ gives (record { written = w; matching = m })
-        range-answers = range-certified ∙ cc (ap (λ (x : Out). x .at) whole-range, ap length ee, em)
-
-        keys-answers : rangeKeys L M s lo hi ks vs ≡ ks′
-        keys-answers = range-keys-certified ∙ ap (λ (x : Out). x .keys) whole-range
-
-        values-answers : rangeValues L M s lo hi ks vs ≡ vs′
-        values-answers = range-values-certified ∙ ap (λ (x : Out). x .values) whole-range
-
-      module _ (z : n ≡ 0) where
-        no-range : range L M s lo hi ≡ []
-        unfolding range
-        no-range = rw (empty n certified-accepts z)
-
-        pub range-none : rangeCall L M s lo hi ks vs ≡ gives (record { written = 0; matching = 0 })
-        range-none = range-answers [] no-range 0 refl ks vs 0 (sym (none-walked ks vs))
-
-        pub range-keys-none : rangeKeys L M s lo hi ks vs ≡ ks
-        range-keys-none = keys-answers [] no-range 0 refl ks vs 0 (sym (none-walked ks vs))
-
-        pub range-values-none : rangeValues L M s lo hi ks vs ≡ vs
-        range-values-none = values-answers [] no-range 0 refl ks vs 0 (sym (none-walked ks vs))
-
-      module _ (z : n ≡ 0 → ⊥) (q : ℕ) (t : target L s (length s - recordSize L) ≡ at q) (m : ℕ)
-          (em : m ≡ length (select (matches lo hi) (listAt L s (nested M) q))) (ks′ vs′ : List ℕ) (w : ℕ)
-          (ew : out ks′ vs′ w ≡ walked (select (matches lo hi) (listAt L s (nested M) q)) ks vs) where
-        range-root : range L M s lo hi ≡ select (matches lo hi) (listAt L s (nested M) q)
-        unfolding range
-        range-root = ap (select (matches lo hi)) (list-root n certified-accepts z q t)
-
-        pub range-gives : rangeCall L M s lo hi ks vs ≡ gives (record { written = w; matching = m })
-        range-gives = range-answers _ range-root m em ks′ vs′ w ew
-
-        pub range-keys-gives : rangeKeys L M s lo hi ks vs ≡ ks′
-        range-keys-gives = keys-answers _ range-root m em ks′ vs′ w ew
-
-        pub range-values-gives : rangeValues L M s lo hi ks vs ≡ vs′
-        range-values-gives = values-answers _ range-root m em ks′ vs′ w ew
-
-  -- ---- a column query, by what the bounds and certify answer
-
-  module _ (exam eye : ℕ) (a b : ℤ) (ks vs : List ℕ) where
-    pub column-uncertified : (r : ℕ) → counted (certify L M s) ≡ refuses r → columnCall L M s exam eye a b ks vs ≡ refuses r
-    unfolding columnCall
-    column-uncertified r u = rw (refuses-inv (certify L M s) r u, columnCall)
-
-    module _ (c : Column) (e : columnBounds exam eye a b ≡ gives c) where
-      pub column-ranges : columnCall L M s exam eye a b ks vs ≡ rangeCall L M s (c .lower) (c .upper) ks vs
-      unfolding columnCall
-      column-ranges = by (certify L M s) refl
-        where
-          by : (x : Checked) → certify L M s ≡ x → columnCall L M s exam eye a b ks vs ≡ rangeCall L M s (c .lower) (c .upper) ks vs
-          by (accepted n t) ex = rw (ex, columnCall, e)
-          by (refused r) ex = rw (ex, columnCall) (sym (range-refuses r (ap counted ex) (c .lower) (c .upper) ks vs))
-
-      pub column-keys-ranges : columnKeys L M s exam eye a b ks vs ≡ rangeKeys L M s (c .lower) (c .upper) ks vs
-      unfolding columnKeys
-      column-keys-ranges = rw (e, columnKeys)
-
-      pub column-values-ranges : columnValues L M s exam eye a b ks vs ≡ rangeValues L M s (c .lower) (c .upper) ks vs
-      unfolding columnValues
-      column-values-ranges = rw (e, columnValues)
-
-    module _ (q : ℕ) (e : columnBounds exam eye a b ≡ refuses q) where
-      pub column-refused : (n : ℕ) → counted (certify L M s) ≡ gives n → columnCall L M s exam eye a b ks vs ≡ refuses q
-      unfolding columnCall
-      column-refused n u = rw (gives-inv (certify L M s) n u .1, columnCall, e)
-
-      pub column-keys-refused : columnKeys L M s exam eye a b ks vs ≡ ks
-      unfolding columnKeys
-      column-keys-refused = rw (e, columnKeys)
-
-      pub column-values-refused : columnValues L M s exam eye a b ks vs ≡ vs
-      unfolding columnValues
-      column-values-refused = rw (e, columnValues)

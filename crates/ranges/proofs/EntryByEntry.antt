@@ -1,43 +1,20 @@
--- A range, entry by entry: the fold that the recursion promises, its closed form, and what of an ascending list it may pass over. Assumes nothing.
+-- The fold over the entries of a range comes to the entries that match, and what of an ascending list it may pass over. Assumes nothing.
 use Prim.Native.Nat.{ℕ, suc, _+_, _≤_}
 use mathlib.Core.Path.{_≡_, refl, sym, _∙_, ap}
 use mathlib.Core.Bool.{Bool, true, false}
 use mathlib.Core.List.{List, [], _∷_, _++_}
 use native.Mathlib.Omega.{arith}
 use lib.ListN.{length}
 use Rattle.format.specs.declared.Entry.{Entry}
 use Rattle.format.specs.declared.Bound.{Bound}
 use Rattle.format.specs.Certify.{Ascending}
 use Rattle.format.specs.Range.{meetsLower, meetsUpper, matches, select}
+use Rattle.format.specs.Written.{put, walked}
 use Rattle.format.specs.Laws.Certify.Ascend.{Under, split}
 use Rattle.format.specs.Laws.Range.List.{lower-rises, under-fails, matches-none, select-past}
 use Rattle.format.specs.Laws.Check.Reach.{true≢false}
-use Rattle.format.specs.Laws.Read.Written.{Out, out, put, runs, fill, walked, runs-none, runs-cons, runs-append, all-filled}
-
--- ---- the definitions that the private contracts cite
-
--- Two lists with the number written, and the number matching.
-pub record Sink : Type 0 where
-  pub lists : Out
-  pub matching : ℕ
-
-abbrev pub sink : List ℕ → List ℕ → ℕ → ℕ → Sink
-sink ks vs n m = record { lists = out ks vs n; matching = m }
-
--- An entry that matches is counted, and written where both lists have room.
-abbrev pub taken : Entry → Sink → Sink
-taken e o = record { lists = put e (o .lists); matching = o .matching + 1 }
-
--- All of these entries taken, in order.
-abbrev pub allTaken : List Entry → Sink → Sink
-allTaken es o = record { lists = fill es (o .lists); matching = o .matching + length es }
-
-unfoldable pub rangeStep : Bound → Bound → Entry → Sink → Sink
-rangeStep lo hi e o = elim (matches lo hi e) [ true ↦ taken e o | false ↦ o ]
-
--- What a range does with these entries, in order.
-abbrev pub ranged : Bound → Bound → List Entry → Sink → Sink
-ranged lo hi es o = runs (rangeStep lo hi) es o
+use Rattle.format.specs.Laws.Read.Written.{runs-none, runs-cons, runs-append, all-filled}
+use Rattle.ranges.specs.Sink.{Sink, sink, taken, allTaken, rangeStep, ranged}
 
 -- ---- entries taken
 
@@ -46,16 +23,6 @@ none-taken o = let z : o .matching + 0 ≡ o .matching = omega arith in rw (runs
 
 more-taken : (e : Entry) (es : List Entry) (o : Sink) → allTaken (e ∷ es) o ≡ allTaken es (taken e o)
 more-taken e es o = let z : o .matching + suc (length es) ≡ o .matching + 1 + length es = omega arith in rw (runs-cons put e es (o .lists), z)
-
--- ---- how many entries pass a test
-
-pub select-few : (f : Entry → Bool) (es : List Entry) → length (select f es) ≤ length es
-select-few f [] = omega arith
-select-few f (e ∷ es) = by (f e) refl (select-few f es)
-  where
-    by : (b : Bool) → f e ≡ b → length (select f es) ≤ length es → length (select f (e ∷ es)) ≤ length (e ∷ es)
-    by true eb ih = rw (eb, select) (omega arith)
-    by false eb ih = rw (eb, select) (omega arith)
 
 module _ (lo hi : Bound) where
   -- ---- one entry
@@ -70,7 +37,7 @@ module _ (lo hi : Bound) where
 
   -- ---- the closed form
 
-  pub runs-select : (es : List Entry) (o : Sink) → ranged lo hi es o ≡ allTaken (select (matches lo hi) es) o
+  runs-select : (es : List Entry) (o : Sink) → ranged lo hi es o ≡ allTaken (select (matches lo hi) es) o
   runs-select [] o = runs-none (rangeStep lo hi) o ∙ sym (none-taken o)
   runs-select (e ∷ es) o = by (matches lo hi e) refl (runs-select es o) (runs-select es (taken e o))
     where
@@ -123,4 +90,5 @@ module _ (lo hi : Bound) where
         let s = split l e r a in
         let m = matches-none lo hi e (λ _. h) in
         let u = ranged lo hi l o in
-        runs-append (rangeStep lo hi) l (e ∷ r) o ∙ runs-cons (rangeStep lo hi) e r u ∙ rw (step-miss e u m) (none-match r u (select-past lo hi e h r (s .above)))
+        runs-append (rangeStep lo hi) l (e ∷ r) o ∙ runs-cons (rangeStep lo hi) e r u
+        ∙ rw (step-miss e u m) (none-match r u (select-past lo hi e h r (s .above)))

@@ -22,66 +22,66 @@ use Rattle.format.specs.Laws.Numbers.RelPtr.{leads-back, fits-gives, off
 use Rattle.format.specs.Laws.Numbers.Signed.{ofTwos-twos}
 
 -- The bytes bs stand in s from p on.
-pub data Stands (s : List ℕ) : ℕ → List ℕ → Type 0 where
-  end : {p : ℕ} → Stands s p []
-  byte : {p b : ℕ} {bs : List ℕ} → getD s p 0 ≡ b → Stands s (suc p) bs → Stands s p (b ∷ bs)
+pub data BytesAt (s : List ℕ) : ℕ → List ℕ → Type 0 where
+  end : {p : ℕ} → BytesAt s p []
+  byte : {p b : ℕ} {bs : List ℕ} → getD s p 0 ≡ b → BytesAt s (suc p) bs → BytesAt s p (b ∷ bs)
 
-pub stands-left : {s : List ℕ} {p : ℕ} (xs ys : List ℕ) → Stands s p (xs ++ ys) → Stands s p xs
+pub stands-left : {s : List ℕ} {p : ℕ} (xs ys : List ℕ) → BytesAt s p (xs ++ ys) → BytesAt s p xs
 stands-left [] ys a = end
 stands-left (x ∷ xs) ys (byte e a) = byte e (stands-left xs ys a)
 
-stands-right : {s : List ℕ} {p : ℕ} (xs : List ℕ) {ys : List ℕ} → Stands s p (xs ++ ys) → Stands s (p + length xs) ys
+stands-right : {s : List ℕ} {p : ℕ} (xs : List ℕ) {ys : List ℕ} → BytesAt s p (xs ++ ys) → BytesAt s (p + length xs) ys
 stands-right [] a = rw add-zero a
 stands-right {p = p} (x ∷ xs) (byte h a) =
     let e : p + suc (length xs) ≡ suc p + length xs = omega arith in
     rw e (stands-right xs a)
 
-pub stands-next : {s : List ℕ} {p p′ : ℕ} (xs : List ℕ) {ys : List ℕ} → p + length xs ≡ p′ → Stands s p (xs ++ ys) → Stands s p′ ys
-stands-next {s} xs {ys} e a = subst (λ (x : ℕ). Stands s x ys) e (stands-right xs a)
+pub stands-next : {s : List ℕ} {p p′ : ℕ} (xs : List ℕ) {ys : List ℕ} → p + length xs ≡ p′ → BytesAt s p (xs ++ ys) → BytesAt s p′ ys
+stands-next {s} xs {ys} e a = subst (λ (x : ℕ). BytesAt s x ys) e (stands-right xs a)
 
-pub first-byte : {s : List ℕ} {p b : ℕ} {bs : List ℕ} → Stands s p (b ∷ bs) → (getD s p 0 ≡ b) × Stands s (suc p) bs
+pub first-byte : {s : List ℕ} {p b : ℕ} {bs : List ℕ} → BytesAt s p (b ∷ bs) → (getD s p 0 ≡ b) × BytesAt s (suc p) bs
 first-byte (byte e a) = (e, a)
 
 -- ---- where bytes stand in a list
 
-stands-skip : {s : List ℕ} {p x : ℕ} {ys : List ℕ} → Stands s p ys → Stands (x ∷ s) (suc p) ys
+stands-skip : {s : List ℕ} {p x : ℕ} {ys : List ℕ} → BytesAt s p ys → BytesAt (x ∷ s) (suc p) ys
 stands-skip end = end
 stands-skip (byte e a) = byte e (stands-skip a)
 
-stands-start : (ys zs : List ℕ) → Stands (ys ++ zs) 0 ys
+stands-start : (ys zs : List ℕ) → BytesAt (ys ++ zs) 0 ys
 stands-start [] zs = end
 stands-start (y ∷ ys) zs = byte refl (stands-skip (stands-start ys zs))
 
-pub stands-here : (xs ys zs : List ℕ) → Stands (xs ++ (ys ++ zs)) (length xs) ys
+pub stands-here : (xs ys zs : List ℕ) → BytesAt (xs ++ (ys ++ zs)) (length xs) ys
 stands-here [] ys zs = stands-start ys zs
 stands-here (x ∷ xs) ys zs = stands-skip (stands-here xs ys zs)
 
-stands-all : (ys : List ℕ) → Stands ys 0 ys
+stands-all : (ys : List ℕ) → BytesAt ys 0 ys
 stands-all [] = end
 stands-all (y ∷ ys) = byte refl (stands-skip (stands-all ys))
 
-pub stands-end : (xs ys : List ℕ) → Stands (xs ++ ys) (length xs) ys
+pub stands-end : (xs ys : List ℕ) → BytesAt (xs ++ ys) (length xs) ys
 stands-end [] ys = stands-all ys
 stands-end (x ∷ xs) ys = stands-skip (stands-end xs ys)
 
-pub stands-as : {s s′ : List ℕ} {p p′ : ℕ} {ys : List ℕ} → s ≡ s′ → p ≡ p′ → Stands s p ys → Stands s′ p′ ys
-stands-as {ys = ys} es ep a = subst₂ (λ (x : List ℕ) (y : ℕ). Stands x y ys) es ep a
+pub stands-as : {s s′ : List ℕ} {p p′ : ℕ} {ys : List ℕ} → s ≡ s′ → p ≡ p′ → BytesAt s p ys → BytesAt s′ p′ ys
+stands-as {ys = ys} es ep a = subst₂ (λ (x : List ℕ) (y : ℕ). BytesAt x y ys) es ep a
 
 -- ---- what is written is read back
 
-stands-get : (s bs : List ℕ) (p k : ℕ) → Stands s p bs → k < length bs → getD s (p + k) 0 ≡ getD bs k 0
+stands-get : (s bs : List ℕ) (p k : ℕ) → BytesAt s p bs → k < length bs → getD s (p + k) 0 ≡ getD bs k 0
 stands-get s [] p k a l = absurd (not-suc-le-zero l)
 stands-get s (b ∷ bs) p zero (byte e a) l = rw add-zero e
 stands-get s (b ∷ bs) p (suc k) (byte e a) l = rw (add-suc, ← suc-add p k) (stands-get s bs (suc p) k a (omega arith))
 
-pub read-back : {s : List ℕ} {p : ℕ} (w x : ℕ) → x < 256 ^ w → Stands s p (leBytes w x) → leAt w s p ≡ x
+pub read-back : {s : List ℕ} {p : ℕ} (w x : ℕ) → x < 256 ^ w → BytesAt s p (leBytes w x) → leAt w s p ≡ x
 read-back {s} {p} w x h a =
     leAt-digits w x s p (λ k l. stands-get s (leBytes w x) p k a (rw length-leBytes l) ∙ getD-leBytes w x k l) ∙ mod-eq-of-lt h
 
 -- ---- offsets
 
 -- A number of the pointer's width has a sign and `signBits` other bits.
-pub width-bits : (w : Width) → 256 ^ bytes w ≡ 2 ^ suc (signBits w)
+width-bits : (w : Width) → 256 ^ bytes w ≡ 2 ^ suc (signBits w)
 width-bits two = refl
 width-bits four = refl
 width-bits eight = refl
@@ -91,11 +91,11 @@ wide two = lit≤ tt
 wide four = lit≤ tt
 wide eight = lit≤ tt
 
-pub difference-back : (q f : ℕ) → q < f → subℕ q f ≡ negsuc (f - q - 1)
+difference-back : (q f : ℕ) → q < f → subℕ q f ≡ negsuc (f - q - 1)
 difference-back q f h = rw (lt-ltb q f h) (ap negsuc (omega arith))
 
 -- The offset back from f to q, as it is written.
-pub twos-back : (h f q : ℕ) → q < f → twos h (subℕ q f) ≡ 2 ^ suc h - (f - q)
+twos-back : (h f q : ℕ) → q < f → twos h (subℕ q f) ≡ 2 ^ suc h - (f - q)
 unfolding twos
 twos-back h f q l = rw (difference-back q f l) (omega arith)
 
@@ -126,7 +126,8 @@ bits-most eight = lit≤ tt
 
 module _ (L : Layout) (s : List ℕ) where
   -- A field that is written so leads back to q, and is not absent.
-  pub offset-back : (f : ℕ) (q : Position) → q .0 < f → 2 * (f - q .0) ≤ 256 ^ pointer L → Stands s f (offsetBytes L f (At q)) → (target L s f ≡ at (q .0)) × (absent L s f ≡ false)
+  pub offset-back : (f : ℕ) (q : Position) → q .0 < f → 2 * (f - q .0) ≤ 256 ^ pointer L → BytesAt s f (offsetBytes L f (At q))
+      → (target L s f ≡ at (q .0)) × (absent L s f ≡ false)
   unfolding target absent
   offset-back f q h far a₀ =
       let hb = signBits (L .width) in
@@ -136,8 +137,8 @@ module _ (L : Layout) (s : List ℕ) where
       let big = wide (L .width) in
       let m = f - q .0 - 1 in
       let et = twos-back hb f (q .0) h in
-      let a : Stands s f (leBytes (pointer L) (twos hb (subℕ (q .0) f))) =
-      subst (Stands s f) (ap (emplaced L) (offset-fits hb f (q .0) h (omega arith) (omega arith))) a₀ in
+      let a : BytesAt s f (leBytes (pointer L) (twos hb (subℕ (q .0) f))) =
+      subst (BytesAt s f) (ap (emplaced L) (offset-fits hb f (q .0) h (omega arith) (omega arith))) a₀ in
       let r : leAt (pointer L) s f ≡ twos hb (subℕ (q .0) f) = read-back (pointer L) (twos hb (subℕ (q .0) f)) (omega arith) a in
       let ez : ofTwos hb (leAt (pointer L) s f) ≡ negsuc m =
       ap (ofTwos hb) (r ∙ ap (twos hb) (difference-back (q .0) f h)) ∙ ofTwos-twos hb (negsuc m) (omega arith) in
@@ -145,9 +146,10 @@ module _ (L : Layout) (s : List ℕ) where
       (leads-back f m (ofTwos hb (leAt (pointer L) s f)) ez (omega arith) ∙ ap at el, ne-eqb _ _ (λ (x : leAt (pointer L) s f ≡ 1). omega arith))
 
   -- The mark of absence.
-  pub marked : (f : ℕ) → f < 2 ^ 63 → Stands s f (offsetBytes L f Absent) → absent L s f ≡ true
+  pub marked : (f : ℕ) → f < 2 ^ 63 → BytesAt s f (offsetBytes L f Absent) → absent L s f ≡ true
   unfolding absent twos
   marked f h a =
       let big = wide (L .width) in
-      let a₁ : Stands s f (leBytes (pointer L) 1) = subst (Stands s f) (ap (emplaced L) (absent-fits (signBits (L .width)) f (bits-least (L .width)) (omega arith))) a in
+      let a₁ : BytesAt s f (leBytes (pointer L) 1) =
+      subst (BytesAt s f) (ap (emplaced L) (absent-fits (signBits (L .width)) f (bits-least (L .width)) (omega arith))) a in
       eq-eqb _ _ (read-back (pointer L) 1 (omega arith) a₁)

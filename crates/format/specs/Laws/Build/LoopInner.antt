@@ -8,21 +8,22 @@ use native.Mathlib.Nat.{suc-add, not-suc-le-zero}
 use lib.ListN.{length, replicate, length-append}
 use Rattle.format.specs.declared.Child.the-variants.{At, Absent}
 use Rattle.format.specs.Layout.{Layout, innerSize}
-use Rattle.format.specs.Tree.{Pair, Slot, slotOf, innerBytes, lastB, moreB, Branch, lengthBranches, lengthBranch, childOf, slotsOf, greaterOf, writeBranches, writeBranch}
+use Rattle.format.specs.Tree.{Slot, slotOf, innerBytes, lastB, moreB, Branch, lengthBranches, lengthBranch, childOf, slotsOf, greaterOf, KeyValue}
+use Rattle.format.specs.Tree.{writeBranches, writeBranch}
 use Rattle.format.specs.Build.{Filled, FilledBranches, closed, fillNext, fillBranches}
 use Rattle.format.specs.Serialize.{State, grow, climb}
 use Rattle.format.specs.Laws.Check.Count.{count}
 use Rattle.format.specs.Laws.Build.Filling.{Took}
-use Rattle.format.specs.Laws.Build.Turns.{climb-close, climb-grow, TurnsTo, leads-then, leads-to}
+use Rattle.format.specs.Laws.Build.LoopSteps.{climb-close, climb-grow, TurnsTo, leads-then, leads-to}
 
 -- One level more is open while the last level takes entries.
-abbrev pub sg : ℕ → ℕ
-sg zero = 0
-sg (suc m) = 1
+abbrev pub extraLevel : ℕ → ℕ
+extraLevel zero = 0
+extraLevel (suc m) = 1
 
-pub sg-pos : (m : ℕ) → 0 < m → sg m ≡ 1
-sg-pos zero h = absurd (not-suc-le-zero h)
-sg-pos (suc m) h = refl
+pub one-extra : (m : ℕ) → 0 < m → extraLevel m ≡ 1
+one-extra zero h = absurd (not-suc-le-zero h)
+one-extra (suc m) h = refl
 
 -- Of ll entries of the last level, c are given to leaves and m are left; or the last level is past.
 abbrev pub Left : ℕ → ℕ → ℕ → Type 0
@@ -37,26 +38,27 @@ left-pos ll c (suc m) h e = e
 abbrev pub Far : ℕ → ℕ → ℕ → Type 0
 Far ll c k = (i : ℕ) → i < k → suc (c + i) ≡ ll → ⊥
 
-pub rep-snoc : {A : Type 0} (l : ℕ) (x : A) (S : List A) → replicate l x ++ (x ∷ S) ≡ x ∷ (replicate l x ++ S)
-rep-snoc zero x S = refl
-rep-snoc {A} (suc l) x S = ap (λ (r : List A). x ∷ r) (rep-snoc l x S)
+pub replicate-cons : {A : Type 0} (l : ℕ) (x : A) (S : List A) → replicate l x ++ (x ∷ S) ≡ x ∷ (replicate l x ++ S)
+replicate-cons zero x S = refl
+replicate-cons {A} (suc l) x S = ap (λ (r : List A). x ∷ r) (replicate-cons l x S)
 
-abbrev pub noPair : Pair
+abbrev pub noPair : KeyValue
 noPair = record { key = 0; value = 0 }
 
 -- An inner node's children and entries: one child, or a child and an entry before the others.
 abbrev pub lastOf : Filled → FilledBranches
 lastOf r = record { branches = lastB (r .branch); rest = r .rest; last = r .last }
 
-abbrev pub moreOf : Branch → Pair → FilledBranches → FilledBranches
+abbrev pub moreOf : Branch → KeyValue → FilledBranches → FilledBranches
 moreOf b e R = record { branches = moreB b e (R .branches); rest = R .rest; last = R .last }
 
 module _ (L : Layout) where
   -- ---- states
 
   -- Before a subtree: l empty inner nodes are open above the stack S.
-  abbrev pub ready : List (List Slot) → ℕ → ℕ → List Pair → ℕ → List ℕ → State
-  ready S l c es p bs = record { openLeaf = []; openInners = replicate l [] ++ S; childPos = Absent; leafEntries = c; iter = es; pos = p; bytes = bs; panics = false }
+  abbrev pub ready : List (List Slot) → ℕ → ℕ → List KeyValue → ℕ → List ℕ → State
+  ready S l c es p bs =
+      record { openLeaf = []; openInners = replicate l [] ++ S; childPos = Absent; leafEntries = c; iter = es; pos = p; bytes = bs; panics = false }
 
   -- After it: its node is closed.
   abbrev pub done : ℕ → Filled → ℕ → List ℕ → State
@@ -73,8 +75,18 @@ module _ (L : Layout) where
       }
 
   -- An inner node at q is closed, and the bytes are y.
-  abbrev pub sealed : ℕ → ℕ → List Pair → List ℕ → State
-  sealed q c es y = record { openLeaf = []; openInners = []; childPos = At (record { 0 = q }); leafEntries = c; iter = es; pos = q + innerSize L; bytes = y; panics = false }
+  abbrev pub sealed : ℕ → ℕ → List KeyValue → List ℕ → State
+  sealed q c es y =
+      record {
+        openLeaf = [];
+        openInners = [];
+        childPos = At (record { 0 = q });
+        leafEntries = c;
+        iter = es;
+        pos = q + innerSize L;
+        bytes = y;
+        panics = false;
+      }
 
   -- The same of the inner node whose first slots are n, and whose others and greater child are R, written from p on.
   abbrev pub shut : ℕ → List Slot → FilledBranches → ℕ → List ℕ → State
@@ -94,13 +106,14 @@ module _ (L : Layout) where
       (append-assoc bs w (innerBytes L q n g) ∙ ap (λ (x : List Slot). bs ++ (w ++ innerBytes L q x g)) (sym (append-nil n)))
 
   -- A node with room takes the subtree r and an entry.
-  pub grown : (S : List (List Slot)) (n : List Slot) (k c : ℕ) (r : Filled) (p : ℕ) (bs : List ℕ) (e : Pair) (es : List Pair) → (length n ≡ L .entries → ⊥) → r .rest ≡ e ∷ es
+  pub grown : (S : List (List Slot)) (n : List Slot) (k c : ℕ) (r : Filled) (p : ℕ) (bs : List ℕ) (e : KeyValue) (es : List KeyValue)
+      → (length n ≡ L .entries → ⊥) → r .rest ≡ e ∷ es
       → climb L (n ∷ S) k (done c r p bs)
       ≡ ready ((n ++ (slotOf e (childOf L (r .branch) p) ∷ [])) ∷ S) k c es (p + lengthBranch L (r .branch)) (bs ++ writeBranch L (r .branch) p)
-  grown S n k c r p bs e es h x = climb-grow L n S k (done c r p bs) h ∙ ap (λ (y : List Pair). grow L y n S k (done c r p bs)) x
+  grown S n k c r p bs e es h x = climb-grow L n S k (done c r p bs) h ∙ ap (λ (y : List KeyValue). grow L y n S k (done c r p bs)) x
 
   -- A slot that was taken before the others counts as one of them.
-  pub shifting : (c : ℕ) (n : List Slot) (b : Branch) (e : Pair) (R : FilledBranches) (p : ℕ) (bs : List ℕ)
+  shifting : (c : ℕ) (n : List Slot) (b : Branch) (e : KeyValue) (R : FilledBranches) (p : ℕ) (bs : List ℕ)
       → shut c (n ++ (slotOf e (childOf L b p) ∷ [])) R (p + lengthBranch L b) (bs ++ writeBranch L b p) ≡ shut c n (moreOf b e R) p bs
   shifting c n b e R p bs =
       let p′ = p + lengthBranch L b in
@@ -116,8 +129,9 @@ module _ (L : Layout) where
       ∙ ap (λ (y : List Slot). sealed q c (R .rest) ((bs ++ w) ++ (v ++ innerBytes L q y g))) (append-assoc n (x ∷ []) xs)
       ∙ ap (λ (y : List ℕ). sealed q c (R .rest) y) (append-assoc bs w (v ++ node) ∙ ap (λ (y : List ℕ). bs ++ y) (sym (append-assoc w v node)))
 
-  pub shift-climb : (S : List (List Slot)) (k c : ℕ) (n : List Slot) (b : Branch) (e : Pair) (R : FilledBranches) (p : ℕ) (bs : List ℕ)
-      → climb L S k (shut c (n ++ (slotOf e (childOf L b p) ∷ [])) R (p + lengthBranch L b) (bs ++ writeBranch L b p)) ≡ climb L S k (shut c n (moreOf b e R) p bs)
+  pub shift-climb : (S : List (List Slot)) (k c : ℕ) (n : List Slot) (b : Branch) (e : KeyValue) (R : FilledBranches) (p : ℕ) (bs : List ℕ)
+      → climb L S k (shut c (n ++ (slotOf e (childOf L b p) ∷ [])) R (p + lengthBranch L b) (bs ++ writeBranch L b p))
+      ≡ climb L S k (shut c n (moreOf b e R) p bs)
   shift-climb S k c n b e R p bs = ap (climb L S k) (shifting c n b e R p bs)
 
   -- With no slot before, the node's subtree is done.
@@ -136,7 +150,8 @@ module _ (L : Layout) where
             leafEntries = c;
             iter = R .rest;
             pos = i;
-            bytes = bs ++ (writeBranches L (R .branches) p ++ innerBytes L (p + lengthBranches L (R .branches)) (slotsOf L (R .branches) p) (greaterOf L (R .branches) p));
+            bytes = bs ++ (writeBranches L (R .branches) p ++ innerBytes L (p + lengthBranches L (R .branches)) (slotsOf L (R .branches) p)
+                (greaterOf L (R .branches) p));
             panics = false;
           }
 
@@ -151,28 +166,32 @@ module _ (L : Layout) where
   pub comes-to : (ll : ℕ) (s : State) (t u : ℕ → State) (m : ℕ) → ((c : ℕ) → t c ≡ u c) → Comes ll s t m → Comes ll s u m
   comes-to ll s t u m e a = record { count = a .count; left = a .left; leads = leads-to L ll s (t (a .count)) (u (a .count)) (a .leads) (e (a .count)) }
 
-  pub comes-then : (ll : ℕ) (s : State) (t u : ℕ → State) (m m′ : ℕ) → Comes ll s t m → ((c : ℕ) → Left ll c m → Comes ll (t c) u m′) → Comes ll s u m′
+  comes-then : (ll : ℕ) (s : State) (t u : ℕ → State) (m m′ : ℕ) → Comes ll s t m → ((c : ℕ) → Left ll c m → Comes ll (t c) u m′) → Comes ll s u m′
   comes-then ll s t u m m′ a d =
       let b = d (a .count) (a .left) in
       record { count = b .count; left = b .left; leads = leads-then L ll s (t (a .count)) (u (b .count)) (a .leads) (b .leads) }
 
   -- Whatever is open above it, a subtree that takes q entries and at most w of the last level is written, and the closed node climbs.
-  unfoldable pub Writes : (ℕ → List Pair → Filled) → ℕ → ℕ → ℕ → Type 0
-  Writes give q w l = (S : List (List Slot)) (ll c m : ℕ) (es : List Pair) (p : ℕ) (bs : List ℕ) → Left ll c m → q + min m w ≤ length es
-      → Comes ll (ready S (l + sg m) c es p bs) (λ c′. climb L S (l + sg (give m es .last)) (done c′ (give m es) p bs)) (give m es .last)
+  unfoldable pub Writes : (ℕ → List KeyValue → Filled) → ℕ → ℕ → ℕ → Type 0
+  Writes give q w l = (S : List (List Slot)) (ll c m : ℕ) (es : List KeyValue) (p : ℕ) (bs : List ℕ) → Left ll c m → q + min m w ≤ length es
+      → Comes ll (ready S (l + extraLevel m) c es p bs) (λ c′. climb L S (l + extraLevel (give m es .last)) (done c′ (give m es) p bs)) (give m es .last)
 
-  module _ (give : ℕ → List Pair → Filled) (q w l : ℕ) (took : (m : ℕ) (es : List Pair) → q + min m w ≤ length es → Took L q w m es (give m es)) (writes : Writes give q w l) where
+  module _ (give : ℕ → List KeyValue → Filled) (q w l : ℕ)
+      (took : (m : ℕ) (es : List KeyValue) → q + min m w ≤ length es → Took L q w m es (give m es)) (writes : Writes give q w l) where
     -- From a node of n slots that takes k more entries to its close.
     Walks : ℕ → Type 0
-    Walks k = (S : List (List Slot)) (n : List Slot) (ll c m : ℕ) (es : List Pair) (p : ℕ) (bs : List ℕ) → Left ll c m → length n + k ≡ L .entries
+    Walks k = (S : List (List Slot)) (n : List Slot) (ll c m : ℕ) (es : List KeyValue) (p : ℕ) (bs : List ℕ) → Left ll c m → length n + k ≡ L .entries
         → suc k * q + k + min m (suc k * w) ≤ length es
-        → Comes ll (ready (n ∷ S) (l + sg m) c es p bs) (λ c′. climb L S (suc (l + sg (fillBranches give k m es .last))) (shut c′ n (fillBranches give k m es) p bs))
+        → Comes ll (ready (n ∷ S) (l + extraLevel m) c es p bs)
+        (λ c′. climb L S (suc (l + extraLevel (fillBranches give k m es .last))) (shut c′ n (fillBranches give k m es) p bs))
         (fillBranches give k m es .last)
 
-    walk-next : (k : ℕ) → Walks k → (S : List (List Slot)) (n : List Slot) (ll c m : ℕ) (es : List Pair) (p : ℕ) (bs : List ℕ) → Left ll c m → length n + suc k ≡ L .entries
-        → suc (suc k) * q + suc k + min m (suc (suc k) * w) ≤ length es → (xs : List Pair) → give m es .rest ≡ xs
-        → Comes ll (ready (n ∷ S) (l + sg m) c es p bs)
-        (λ c′. climb L S (suc (l + sg (fillNext (fillBranches give k) (give m es) xs .last))) (shut c′ n (fillNext (fillBranches give k) (give m es) xs) p bs))
+    walk-next : (k : ℕ) → Walks k → (S : List (List Slot)) (n : List Slot) (ll c m : ℕ) (es : List KeyValue) (p : ℕ) (bs : List ℕ) → Left ll c m
+        → length n + suc k ≡ L .entries
+        → suc (suc k) * q + suc k + min m (suc (suc k) * w) ≤ length es → (xs : List KeyValue) → give m es .rest ≡ xs
+        → Comes ll (ready (n ∷ S) (l + extraLevel m) c es p bs)
+        (λ c′. climb L S (suc (l + extraLevel (fillNext (fillBranches give k) (give m es) xs .last)))
+        (shut c′ n (fillNext (fillBranches give k) (give m es) xs) p bs))
         (fillNext (fillBranches give k) (give m es) xs .last)
     unfolding Walks Writes
     walk-next k ih S n ll c m es p bs lf h size [] e = let T = took m es (omega arith) in absurd (omega (arith, T .left, ap length e))
@@ -185,21 +204,22 @@ module _ (L : Layout) where
         let bs′ = bs ++ writeBranch L b p in
         let R = fillBranches give k (r .last) xs in
         let ln : length n′ ≡ length n + 1 = length-append n (slotOf x (childOf L b p) ∷ []) in
-        comes-then ll (ready (n ∷ S) (l + sg m) c es p bs) (λ c′. ready (n′ ∷ S) (l + sg (r .last)) c′ xs p′ bs′)
-        (λ c′. climb L S (suc (l + sg (R .last))) (shut c′ n (moreOf b x R) p bs)) (r .last) (R .last)
-        (comes-to ll (ready (n ∷ S) (l + sg m) c es p bs) (λ c′. climb L (n ∷ S) (l + sg (r .last)) (done c′ r p bs)) (λ c′. ready (n′ ∷ S) (l + sg (r .last)) c′ xs p′ bs′) (r .last)
-        (λ c′. grown S n (l + sg (r .last)) c′ r p bs x xs (λ z. omega arith) e) (writes (n ∷ S) ll c m es p bs lf (omega arith)))
-        (λ c₁ lf₁. comes-to ll (ready (n′ ∷ S) (l + sg (r .last)) c₁ xs p′ bs′) (λ c′. climb L S (suc (l + sg (R .last))) (shut c′ n′ R p′ bs′))
-        (λ c′. climb L S (suc (l + sg (R .last))) (shut c′ n (moreOf b x R) p bs)) (R .last)
-        (λ c′. shift-climb S (suc (l + sg (R .last))) c′ n b x R p bs)
+        comes-then ll (ready (n ∷ S) (l + extraLevel m) c es p bs) (λ c′. ready (n′ ∷ S) (l + extraLevel (r .last)) c′ xs p′ bs′)
+        (λ c′. climb L S (suc (l + extraLevel (R .last))) (shut c′ n (moreOf b x R) p bs)) (r .last) (R .last)
+        (comes-to ll (ready (n ∷ S) (l + extraLevel m) c es p bs) (λ c′. climb L (n ∷ S) (l + extraLevel (r .last)) (done c′ r p bs))
+        (λ c′. ready (n′ ∷ S) (l + extraLevel (r .last)) c′ xs p′ bs′) (r .last)
+        (λ c′. grown S n (l + extraLevel (r .last)) c′ r p bs x xs (λ z. omega arith) e) (writes (n ∷ S) ll c m es p bs lf (omega arith)))
+        (λ c₁ lf₁. comes-to ll (ready (n′ ∷ S) (l + extraLevel (r .last)) c₁ xs p′ bs′) (λ c′. climb L S (suc (l + extraLevel (R .last))) (shut c′ n′ R p′ bs′))
+        (λ c′. climb L S (suc (l + extraLevel (R .last))) (shut c′ n (moreOf b x R) p bs)) (R .last)
+        (λ c′. shift-climb S (suc (l + extraLevel (R .last))) c′ n b x R p bs)
         (ih S n′ ll c₁ (r .last) xs p′ bs′ lf₁ (omega arith) (omega (arith, T .left, T .last, ap length e))))
 
     walks : (k : ℕ) → Walks k
     unfolding Walks Writes
     walks zero S n ll c m es p bs lf h size =
-        comes-to ll (ready (n ∷ S) (l + sg m) c es p bs) (λ c′. climb L (n ∷ S) (l + sg (give m es .last)) (done c′ (give m es) p bs))
-        (λ c′. climb L S (suc (l + sg (give m es .last))) (shut c′ n (lastOf (give m es)) p bs)) (give m es .last)
-        (λ c′. closing S n (l + sg (give m es .last)) c′ (give m es) p bs (omega arith)) (writes (n ∷ S) ll c m es p bs lf (omega arith))
+        comes-to ll (ready (n ∷ S) (l + extraLevel m) c es p bs) (λ c′. climb L (n ∷ S) (l + extraLevel (give m es .last)) (done c′ (give m es) p bs))
+        (λ c′. climb L S (suc (l + extraLevel (give m es .last))) (shut c′ n (lastOf (give m es)) p bs)) (give m es .last)
+        (λ c′. closing S n (l + extraLevel (give m es .last)) c′ (give m es) p bs (omega arith)) (writes (n ∷ S) ll c m es p bs lf (omega arith))
     walks (suc k) S n ll c m es p bs lf h size = walk-next k (walks k) S n ll c m es p bs lf h size (give m es .rest) refl
 
     -- So does the inner node over such subtrees.
@@ -207,9 +227,13 @@ module _ (L : Layout) where
     unfolding Writes Walks
     inner-writes S ll c m es p bs lf size =
         let R = fillBranches give (L .entries) m es in
-        let e₁ : replicate (l + sg m) [] ++ ([] ∷ S) ≡ replicate (suc l + sg m) [] ++ S = rep-snoc (l + sg m) [] S ∙ ap (λ (i : ℕ). replicate i [] ++ S) (sym (suc-add l (sg m))) in
+        let e₁ : replicate (l + extraLevel m) [] ++ ([] ∷ S) ≡ replicate (suc l + extraLevel m) [] ++ S =
+        replicate-cons (l + extraLevel m) [] S ∙ ap (λ (i : ℕ). replicate i [] ++ S) (sym (suc-add l (extraLevel m))) in
         let a = walks (L .entries) S [] ll c m es p bs lf (omega arith) size in
-        comes-to ll (ready S (suc l + sg m) c es p bs) (λ c′. climb L S (suc (l + sg (R .last))) (shut c′ [] R p bs)) (λ c′. climb L S (suc l + sg (R .last)) (done c′ (closed R) p bs)) (R .last)
-        (λ c′. ap (climb L S (suc (l + sg (R .last)))) (shut-done c′ R p bs) ∙ ap (λ (i : ℕ). climb L S i (done c′ (closed R) p bs)) (sym (suc-add l (sg (R .last)))))
-        (subst (λ (x : List (List Slot)). Comes ll (record { openLeaf = []; openInners = x; childPos = Absent; leafEntries = c; iter = es; pos = p; bytes = bs; panics = false })
-        (λ c′. climb L S (suc (l + sg (R .last))) (shut c′ [] R p bs)) (R .last)) e₁ a)
+        comes-to ll (ready S (suc l + extraLevel m) c es p bs) (λ c′. climb L S (suc (l + extraLevel (R .last))) (shut c′ [] R p bs))
+        (λ c′. climb L S (suc l + extraLevel (R .last)) (done c′ (closed R) p bs)) (R .last)
+        (λ c′. ap (climb L S (suc (l + extraLevel (R .last)))) (shut-done c′ R p bs)
+        ∙ ap (λ (i : ℕ). climb L S i (done c′ (closed R) p bs)) (sym (suc-add l (extraLevel (R .last)))))
+        (subst (λ (x : List (List Slot)). Comes ll
+        (record { openLeaf = []; openInners = x; childPos = Absent; leafEntries = c; iter = es; pos = p; bytes = bs; panics = false })
+        (λ c′. climb L S (suc (l + extraLevel (R .last))) (shut c′ [] R p bs)) (R .last)) e₁ a)

@@ -8,28 +8,28 @@ use lib.IntN.{ℤ}
 use lib.Dec.{leb, lit<, lit≤}
 use borrow.Author.Tests.{leb-true}
 use lib.ListN.{length, replicate, length-replicate}
 use Rattle.format.specs.declared.Bound.{Bound}
 use Rattle.format.specs.Layout.{Layout, Limits, layout32, standard, pointer}
 use Rattle.format.specs.Refusal.{Answer, gives, refuses}
 use Rattle.format.specs.Bytes.{AllBytes, AllWords}
 use Rattle.format.specs.Key.{Column, columnBounds}
 use Rattle.format.specs.Check.{Checked, accepted, refused, counted, root, recorded, checkArchive}
 use Rattle.format.specs.Certify.{certify}
 use Rattle.format.specs.Entries.{list}
 use Rattle.format.specs.Range.{matches, range}
 use Rattle.format.specs.Written.{written}
-use Rattle.format.specs.Tree.{Pair, lengthBranch}
+use Rattle.format.specs.Tree.{lengthBranch, KeyValue}
 use Rattle.format.specs.Build.{treeOf, behind, pairs, build, buildLength, archive}
 use Rattle.format.specs.Calls.{Walk, Matched, walkCall, rangeCall, columnCall}
+use Rattle.format.specs.TreeShape.{AllFit}
 use Rattle.format.specs.Laws.Numbers.Bytes.{leAt-lt}
 use Rattle.format.specs.Laws.Check.Archive.{list-length}
-use Rattle.format.specs.Laws.Range.Ranged.{select-few}
-use Rattle.format.specs.Laws.Calls.Opened.{is-archive, is-recorded, not-long, walk-refuses, walk-accepted, certified-accepts}
-use Rattle.format.specs.Laws.Calls.Opened.{range-refuses, range-certified, column-ranges, column-uncertified, column-refused}
-use Rattle.format.specs.Laws.Build.Trees.{AllFit}
+use Rattle.format.specs.Laws.Range.List.{select-few}
+use Rattle.format.specs.Laws.Calls.Accepted.{is-archive, is-recorded, not-long, walk-refuses, walk-accepted}
+use Rattle.format.specs.Laws.Calls.Certified.{certified-accepts, range-refuses, range-certified, column-ranges, column-uncertified, column-refused}
 use Rattle.format.specs.Laws.Build.Built32.{start-near, small-tree, provided-inv, build-certifies}
 use Rattle.format.specs.Laws.Build.Lengths.{behind-length}
-use Rattle.format.specs.Laws.Calls.Refusals.{given}
+use Rattle.fieldmap.specs.Refusals.{given}
 
 module _ (L : Layout) (M : Limits) (s : List ℕ) (b : AllBytes s) where
   module _ (n : ℕ) (e : counted (checkArchive L M s) ≡ gives n) where
@@ -83,12 +83,12 @@ build-fits ks vs h room n wk wv e =
 pub length-fits : (n h m : ℕ) → buildLength layout32 n h ≡ gives m → m ≤ standard .longest
 unfolding buildLength treeOf standard
 length-fits n h m e =
-    let es : List Pair = replicate n (record { key = 0; value = 0 }) in
+    let es : List KeyValue = replicate n (record { key = 0; value = 0 }) in
     let b = treeOf layout32 es in
     let (few, e₁) = provided-inv (leb n 40000) _ _ e in
     let (low, e₂) = provided-inv (leb h 4096) _ _ e₁ in
     let em : m ≡ h + length (behind layout32 h b n) = cc in
-    let el = length-replicate {A = Pair} n (record { key = 0; value = 0 }) in
+    let el = length-replicate {A = KeyValue} n (record { key = 0; value = 0 }) in
     let n-few = leb-true n 40000 few in
     omega (arith, n-few, leb-true h 4096 low, behind-length layout32 h n b, start-near b h, short es (fit n) (omega (arith, el, n-few)))
   where
@@ -96,6 +96,6 @@ length-fits n h m e =
     fit zero = tt
     fit (suc n) = (record { key = lit< tt; value = lit< tt }, fit n)
 
-    short : (es : List Pair) → AllFit es → length es ≤ 40000 → lengthBranch layout32 (treeOf layout32 es) ≤ 896112
+    short : (es : List KeyValue) → AllFit es → length es ≤ 40000 → lengthBranch layout32 (treeOf layout32 es) ≤ 896112
     short [] f l = lit≤ tt
     short (x ∷ es) f l = small-tree x es l f .short

@@ -10,42 +10,49 @@ use lib.ListN.{length, getD, take, drop, length-append, length-drop}
 use lib.Seq.{take-suc, drop-cons, length-take-le}
 use Rattle.format.specs.declared.Child.the-variants.{Absent}
 use Rattle.format.specs.Layout.{Layout}
-use Rattle.format.specs.Tree.{Pair, Slot, slotOf, innerBytes, lengthBranches, lengthBranch, childOf, slotsOf, greaterOf, writeBranches, writeBranch}
+use Rattle.format.specs.Tree.{Slot, slotOf, innerBytes, lengthBranches, lengthBranch, childOf, slotsOf, greaterOf, writeBranches, writeBranch, KeyValue}
 use Rattle.format.specs.Build.{Filled, FilledBranches, fillNext, fillBranches, fillLeaf, fill}
 use Rattle.format.specs.Serialize.{State, withInners, closeLeaf, climb, Taken, takeEntries, transit, pushLeaf, turn}
-use Rattle.format.specs.Laws.Build.Subtrees.{sg, sg-pos, Left, left-pos, Far, noPair, lastOf, moreOf, ready, done, sealed, shut, closing, grown, shift-climb, Comes}
-use Rattle.format.specs.Laws.Build.Turns.{turn-put, turn-close, turn-end, climb-stack, TurnsTo, leads-refl, leads-then, leads-turn, leads-to}
+use Rattle.format.specs.Laws.Build.LoopInner.{extraLevel, one-extra, Left, left-pos, Far, noPair, lastOf, moreOf, ready, done, sealed, shut}
+use Rattle.format.specs.Laws.Build.LoopInner.{closing, grown, shift-climb, Comes}
+use Rattle.format.specs.Laws.Build.LoopSteps.{turn-put, turn-close, turn-end, climb-stack, TurnsTo, leads-refl, leads-then, leads-turn, leads-to}
 
 module _ (L : Layout) where
   -- ---- leaves
 
   -- The open leaf holds the first k entries.
-  abbrev pub held : List (List Slot) → ℕ → ℕ → List Pair → ℕ → List ℕ → State
-  held S c k es p bs = record { openLeaf = take k es; openInners = S; childPos = Absent; leafEntries = c; iter = drop k es; pos = p; bytes = bs; panics = false }
+  abbrev held : List (List Slot) → ℕ → ℕ → List KeyValue → ℕ → List ℕ → State
+  held S c k es p bs =
+      record { openLeaf = take k es; openInners = S; childPos = Absent; leafEntries = c; iter = drop k es; pos = p; bytes = bs; panics = false }
 
-  pub pushed : (S : List (List Slot)) (c j : ℕ) (es : List Pair) (p : ℕ) (bs : List ℕ) → j < length es
+  pushed : (S : List (List Slot)) (c j : ℕ) (es : List KeyValue) (p : ℕ) (bs : List ℕ) → j < length es
       → pushLeaf L (held S c j es p bs) (getD es j noPair) (drop (suc j) es) ≡ held S (suc c) (suc j) es p bs
-  pushed S c j es p bs h = ap (λ (x : List Pair). leaf x) (sym (take-suc es j noPair h))
+  pushed S c j es p bs h = ap (λ (x : List KeyValue). leaf x) (sym (take-suc es j noPair h))
     where
-      leaf : List Pair → State
+      leaf : List KeyValue → State
       leaf x = record { openLeaf = x; openInners = S; childPos = Absent; leafEntries = suc c; iter = drop (suc j) es; pos = p; bytes = bs; panics = false }
 
-  pub leaf-length : (j : ℕ) (es : List Pair) → j < length es → length (take j es ++ (getD es j noPair ∷ [])) ≡ suc j
+  leaf-length : (j : ℕ) (es : List KeyValue) → j < length es → length (take j es ++ (getD es j noPair ∷ [])) ≡ suc j
   leaf-length j es h = length-append (take j es) (getD es j noPair ∷ []) ∙ omega (arith, length-take-le j es (omega arith))
 
-  pub hold : (S : List (List Slot)) (ll c j : ℕ) (es : List Pair) (p : ℕ) (bs : List ℕ) → j < L .entries → j ≤ length es → Far ll c j → TurnsTo L ll (ready L S 0 c es p bs) (held S (c + j) j es p bs)
-  hold S ll c zero es p bs h l f = leads-to L ll (ready L S 0 c es p bs) (held S c 0 es p bs) (held S (c + 0) 0 es p bs) (leads-refl L ll (ready L S 0 c es p bs)) (ap (λ (i : ℕ). held S i 0 es p bs) (sym (add-zero c)))
+  hold : (S : List (List Slot)) (ll c j : ℕ) (es : List KeyValue) (p : ℕ) (bs : List ℕ) → j < L .entries → j ≤ length es → Far ll c j
+      → TurnsTo L ll (ready L S 0 c es p bs) (held S (c + j) j es p bs)
+  hold S ll c zero es p bs h l f =
+      leads-to L ll (ready L S 0 c es p bs) (held S c 0 es p bs) (held S (c + 0) 0 es p bs) (leads-refl L ll (ready L S 0 c es p bs))
+      (ap (λ (i : ℕ). held S i 0 es p bs) (sym (add-zero c)))
   hold S ll c (suc j) es p bs h l f =
       let s = held S (c + j) j es p bs in
       let e = getD es j noPair in
       let a : TurnsTo L ll (ready L S 0 c es p bs) s = hold S ll c j es p bs (omega arith) (omega arith) (λ i k z. f i (omega arith) z) in
       let t : turn L ll e (drop (suc j) es) s ≡ held S (c + suc j) (suc j) es p bs =
-      turn-put L ll e (drop (suc j) es) s (λ z. f j (omega arith) z) (λ z. omega (arith, leaf-length j es l)) ∙ pushed S (c + j) j es p bs l ∙ ap (λ (i : ℕ). held S i (suc j) es p bs) (sym (add-suc c j)) in
+      turn-put L ll e (drop (suc j) es) s (λ z. f j (omega arith) z) (λ z. omega (arith, leaf-length j es l)) ∙ pushed S (c + j) j es p bs l
+      ∙ ap (λ (i : ℕ). held S i (suc j) es p bs) (sym (add-suc c j)) in
       leads-then L ll (ready L S 0 c es p bs) s (held S (c + suc j) (suc j) es p bs) a
-      (leads-to L ll s (turn L ll e (drop (suc j) es) s) (held S (c + suc j) (suc j) es p bs) (leads-turn L ll s e (drop (suc j) es) (drop-cons es j noPair l)) t)
+      (leads-to L ll s (turn L ll e (drop (suc j) es) s) (held S (c + suc j) (suc j) es p bs)
+      (leads-turn L ll s e (drop (suc j) es) (drop-cons es j noPair l)) t)
 
   -- A full leaf that does not end the last level.
-  pub leaf-close : (S : List (List Slot)) (ll c j : ℕ) (es : List Pair) (p : ℕ) (bs : List ℕ) (m : ℕ) → suc j ≡ L .entries → j < length es → Far ll c (suc j)
+  leaf-close : (S : List (List Slot)) (ll c j : ℕ) (es : List KeyValue) (p : ℕ) (bs : List ℕ) (m : ℕ) → suc j ≡ L .entries → j < length es → Far ll c (suc j)
       → TurnsTo L ll (ready L S 0 c es p bs) (climb L S 0 (done L (c + suc j) (fillLeaf L (suc j) m es) p bs))
   leaf-close S ll c j es p bs m ej l f =
       let s = held S (c + j) j es p bs in
@@ -53,20 +60,23 @@ module _ (L : Layout) where
       let d : ℕ → State = λ i. done L i (fillLeaf L (suc j) m es) p bs in
       let a : TurnsTo L ll (ready L S 0 c es p bs) s = hold S ll c j es p bs (omega arith) (omega arith) (λ i k z. f i (omega arith) z) in
       let t : turn L ll e (drop (suc j) es) s ≡ climb L S 0 (d (c + suc j)) =
-      turn-close L ll e (drop (suc j) es) s (λ z. f j (omega arith) z) (leaf-length j es l ∙ ej) ∙ ap (λ (x : State). climb L S 0 (closeLeaf L x)) (pushed S (c + j) j es p bs l)
+      turn-close L ll e (drop (suc j) es) s (λ z. f j (omega arith) z) (leaf-length j es l ∙ ej)
+      ∙ ap (λ (x : State). climb L S 0 (closeLeaf L x)) (pushed S (c + j) j es p bs l)
       ∙ climb-stack L S 0 (d (suc (c + j))) S ∙ ap (λ (i : ℕ). climb L S 0 (d i)) (sym (add-suc c j)) in
       leads-then L ll (ready L S 0 c es p bs) s (climb L S 0 (d (c + suc j))) a
       (leads-to L ll s (turn L ll e (drop (suc j) es) s) (climb L S 0 (d (c + suc j))) (leads-turn L ll s e (drop (suc j) es) (drop-cons es j noPair l)) t)
 
-  pub leaf-full : 0 < L .entries → (S : List (List Slot)) (ll c : ℕ) (es : List Pair) (p : ℕ) (bs : List ℕ) (m : ℕ) → L .entries ≤ length es → Far ll c (L .entries)
+  pub leaf-full : 0 < L .entries → (S : List (List Slot)) (ll c : ℕ) (es : List KeyValue) (p : ℕ) (bs : List ℕ) (m : ℕ) → L .entries ≤ length es
+      → Far ll c (L .entries)
       → TurnsTo L ll (ready L S 0 c es p bs) (climb L S 0 (done L (c + L .entries) (fillLeaf L (L .entries) m es) p bs))
   leaf-full some S ll c es p bs m l f =
       let j = L .entries - 1 in
       let ej : suc j ≡ L .entries = omega arith in
-      subst (λ (k : ℕ). TurnsTo L ll (ready L S 0 c es p bs) (climb L S 0 (done L (c + k) (fillLeaf L k m es) p bs))) ej (leaf-close S ll c j es p bs m ej (omega arith) (λ i k z. f i (omega arith) z))
+      subst (λ (k : ℕ). TurnsTo L ll (ready L S 0 c es p bs) (climb L S 0 (done L (c + k) (fillLeaf L k m es) p bs))) ej
+      (leaf-close S ll c j es p bs m ej (omega arith) (λ i k z. f i (omega arith) z))
 
   -- The leaf that ends the last level.
-  pub leaf-last : (S : List (List Slot)) (ll c j : ℕ) (es : List Pair) (p : ℕ) (bs : List ℕ) → j < L .entries → j < length es → c + suc j ≡ ll
+  pub leaf-last : (S : List (List Slot)) (ll c j : ℕ) (es : List KeyValue) (p : ℕ) (bs : List ℕ) → j < L .entries → j < length es → c + suc j ≡ ll
       → let u = transit L S (withInners (done L ll (fillLeaf L (suc j) 0 es) p bs) S) in TurnsTo L ll (ready L S 0 c es p bs) (climb L (u .openInners) 0 u)
   leaf-last S ll c j es p bs h l z =
       let s = held S (c + j) j es p bs in
@@ -77,16 +87,17 @@ module _ (L : Layout) where
       let a : TurnsTo L ll (ready L S 0 c es p bs) s = hold S ll c j es p bs h (omega arith) (λ i k x. omega arith) in
       let t : turn L ll e (drop (suc j) es) s ≡ after (d ll) =
       turn-end L ll e (drop (suc j) es) s ez ∙ ap (λ (x : State). after (closeLeaf L x)) (pushed S (c + j) j es p bs l) ∙ ap (λ (i : ℕ). after (d i)) ez in
-      leads-then L ll (ready L S 0 c es p bs) s (after (d ll)) a (leads-to L ll s (turn L ll e (drop (suc j) es) s) (after (d ll)) (leads-turn L ll s e (drop (suc j) es) (drop-cons es j noPair l)) t)
+      leads-then L ll (ready L S 0 c es p bs) s (after (d ll)) a
+      (leads-to L ll s (turn L ll e (drop (suc j) es) s) (after (d ll)) (leads-turn L ll s e (drop (suc j) es) (drop-cons es j noPair l)) t)
 
   -- ---- the node over the last level
 
-  pub last-big : (m : ℕ) (es : List Pair) → L .entries < m → fill L 0 m es ≡ fillLeaf L (L .entries) (m - L .entries) es
+  last-big : (m : ℕ) (es : List KeyValue) → L .entries < m → fill L 0 m es ≡ fillLeaf L (L .entries) (m - L .entries) es
   unfolding fill
   last-big zero es h = absurd (not-suc-le-zero h)
   last-big (suc m) es h = let e : min (suc m) (L .entries) ≡ L .entries = omega arith in ap (λ (k : ℕ). fillLeaf L k (suc m - k) es) e
 
-  pub last-small : (j : ℕ) (es : List Pair) → j < L .entries → fill L 0 (suc j) es ≡ fillLeaf L (suc j) 0 es
+  pub last-small : (j : ℕ) (es : List KeyValue) → j < L .entries → fill L 0 (suc j) es ≡ fillLeaf L (suc j) 0 es
   unfolding fill
   last-small j es h =
       let e : min (suc j) (L .entries) ≡ suc j = omega arith in
@@ -94,16 +105,16 @@ module _ (L : Layout) where
       ap (λ (k : ℕ). fillLeaf L k (suc j - k) es) e ∙ ap (λ (k : ℕ). fillLeaf L (suc j) k es) z
 
   -- Once the last level has ended, a node takes entries with no child before them.
-  abbrev pub bareOf : ℕ → List Pair → FilledBranches
+  abbrev bareOf : ℕ → List KeyValue → FilledBranches
   bareOf k es = fillBranches (fill L 0) k 0 es
 
-  pub record Bare (k : ℕ) (n : List Slot) (es : List Pair) (p : ℕ) (R : FilledBranches) : Type 0 where
+  record Bare (k : ℕ) (n : List Slot) (es : List KeyValue) (p : ℕ) (R : FilledBranches) : Type 0 where
     pub takes : takeEntries L k n Absent es ≡ record { node = n ++ slotsOf L (R .branches) p; childPos = greaterOf L (R .branches) p; iter = R .rest }
     pub bytes : writeBranches L (R .branches) p ≡ []
     pub size : lengthBranches L (R .branches) ≡ 0
     pub last : R .last ≡ 0
 
-  pub bare : (k : ℕ) (n : List Slot) (es : List Pair) (p : ℕ) → k ≤ length es → Bare k n es p (bareOf k es)
+  bare : (k : ℕ) (n : List Slot) (es : List KeyValue) (p : ℕ) → k ≤ length es → Bare k n es p (bareOf k es)
   unfolding fill takeEntries
   bare zero n es p h = record { takes = ap (λ (x : List Slot). taken x) (sym (append-nil n)); bytes = refl; size = refl; last = refl }
     where
@@ -124,8 +135,9 @@ module _ (L : Layout) where
       taken R x = record { node = x; childPos = greaterOf L (R .branches) (p + 0); iter = R .rest }
 
   -- The transition closes the node: R is the leaf r and what the node takes after it.
-  pub transit-shut : (S : List (List Slot)) (n : List Slot) (r : Filled) (R : FilledBranches) (ll p : ℕ) (bs : List ℕ)
-      → takeEntries L (L .entries - length n) n (childOf L (r .branch) p) (r .rest) ≡ record { node = n ++ slotsOf L (R .branches) p; childPos = greaterOf L (R .branches) p; iter = R .rest }
+  transit-shut : (S : List (List Slot)) (n : List Slot) (r : Filled) (R : FilledBranches) (ll p : ℕ) (bs : List ℕ)
+      → takeEntries L (L .entries - length n) n (childOf L (r .branch) p) (r .rest)
+      ≡ record { node = n ++ slotsOf L (R .branches) p; childPos = greaterOf L (R .branches) p; iter = R .rest }
       → writeBranches L (R .branches) p ≡ writeBranch L (r .branch) p → lengthBranches L (R .branches) ≡ lengthBranch L (r .branch)
       → (let u = transit L (n ∷ S) (withInners (done L ll r p bs) (n ∷ S)) in climb L (u .openInners) 0 u) ≡ climb L S 0 (shut L ll n R p bs)
   unfolding transit
@@ -137,20 +149,22 @@ module _ (L : Layout) where
       let g : Taken L = record { node = n ++ slotsOf L (R .branches) p; childPos = greaterOf L (R .branches) p; iter = R .rest } in
       climb-stack L S 0 (sealed L q ll (f .iter) ((bs ++ w) ++ innerBytes L q (f .node) (f .childPos))) S
       ∙ ap (λ (y : List ℕ). climb L S 0 (sealed L q ll (f .iter) y)) (append-assoc bs w (innerBytes L q (f .node) (f .childPos)))
-      ∙ ap (λ (x : Taken L). after x q w) et ∙ ap (λ (i : ℕ). after g (p + i) w) (sym es) ∙ ap (λ (y : List ℕ). after g (p + lengthBranches L (R .branches)) y) (sym eb)
+      ∙ ap (λ (x : Taken L). after x q w) et ∙ ap (λ (i : ℕ). after g (p + i) w) (sym es)
+      ∙ ap (λ (y : List ℕ). after g (p + lengthBranches L (R .branches)) y) (sym eb)
 
   -- From a node of n slots over the last level, which takes k more entries, to its close.
   unfoldable pub Ends : ℕ → Type 0
-  Ends k = (S : List (List Slot)) (n : List Slot) (ll c m : ℕ) (es : List Pair) (p : ℕ) (bs : List ℕ) → 0 < m → c + m ≡ ll → length n + k ≡ L .entries
+  Ends k = (S : List (List Slot)) (n : List Slot) (ll c m : ℕ) (es : List KeyValue) (p : ℕ) (bs : List ℕ) → 0 < m → c + m ≡ ll → length n + k ≡ L .entries
       → k + min m (suc k * L .entries) ≤ length es
-      → Comes L ll (ready L (n ∷ S) 0 c es p bs) (λ c′. climb L S (sg (fillBranches (fill L 0) k m es .last)) (shut L c′ n (fillBranches (fill L 0) k m es) p bs))
+      → Comes L ll (ready L (n ∷ S) 0 c es p bs)
+      (λ c′. climb L S (extraLevel (fillBranches (fill L 0) k m es .last)) (shut L c′ n (fillBranches (fill L 0) k m es) p bs))
       (fillBranches (fill L 0) k m es .last)
 
   -- The same, where the first child is r.
-  unfoldable pub EndsBy : ℕ → List (List Slot) → List Slot → ℕ → ℕ → List Pair → ℕ → List ℕ → FilledBranches → Type 0
-  EndsBy k S n ll c es p bs R = Comes L ll (ready L (n ∷ S) 0 c es p bs) (λ c′. climb L S (sg (R .last)) (shut L c′ n R p bs)) (R .last)
+  unfoldable EndsBy : ℕ → List (List Slot) → List Slot → ℕ → ℕ → List KeyValue → ℕ → List ℕ → FilledBranches → Type 0
+  EndsBy k S n ll c es p bs R = Comes L ll (ready L (n ∷ S) 0 c es p bs) (λ c′. climb L S (extraLevel (R .last)) (shut L c′ n R p bs)) (R .last)
 
-  pub ends-zero : 0 < L .entries → Ends 0
+  ends-zero : 0 < L .entries → Ends 0
   unfolding Ends EndsBy takeEntries
   ends-zero some S n ll c zero es p bs pos e h size = absurd (not-suc-le-zero pos)
   ends-zero some S n ll c (suc j) es p bs pos e h size = go (decLt (L .entries) (suc j))
@@ -163,9 +177,11 @@ module _ (L : Layout) where
           (record {
             count = c + L .entries;
             left = left-pos ll (c + L .entries) m (omega arith) (omega arith);
-            leads = leads-to L ll (ready L (n ∷ S) 0 c es p bs) (climb L (n ∷ S) 0 (done L (c + L .entries) r p bs)) (climb L S (sg m) (shut L (c + L .entries) n (lastOf r) p bs))
+            leads = leads-to L ll (ready L (n ∷ S) 0 c es p bs) (climb L (n ∷ S) 0 (done L (c + L .entries) r p bs))
+                (climb L S (extraLevel m) (shut L (c + L .entries) n (lastOf r) p bs))
                 (leaf-full some (n ∷ S) ll c es p bs m (omega arith) (λ i k z. omega arith))
-                (closing L S n 0 (c + L .entries) r p bs (omega arith) ∙ ap (λ (i : ℕ). climb L S i (shut L (c + L .entries) n (lastOf r) p bs)) (sym (sg-pos m (omega arith))));
+                (closing L S n 0 (c + L .entries) r p bs (omega arith)
+                ∙ ap (λ (i : ℕ). climb L S i (shut L (c + L .entries) n (lastOf r) p bs)) (sym (one-extra m (omega arith))));
           })
       go (no b) =
           let r = fillLeaf L (suc j) 0 es in
@@ -174,7 +190,8 @@ module _ (L : Layout) where
           (record {
             count = ll;
             left = omega arith;
-            leads = leads-to L ll (ready L (n ∷ S) 0 c es p bs) _ (climb L S 0 (shut L ll n (lastOf r) p bs)) (leaf-last (n ∷ S) ll c j es p bs (omega arith) (omega arith) e)
+            leads = leads-to L ll (ready L (n ∷ S) 0 c es p bs) _ (climb L S 0 (shut L ll n (lastOf r) p bs))
+                (leaf-last (n ∷ S) ll c j es p bs (omega arith) (omega arith) e)
                 (transit-shut S n r (lastOf r) ll p bs
                 (ap (λ (i : ℕ). takeEntries L i n (childOf L (r .branch) p) (r .rest)) z ∙ ap (λ (x : List Slot). taken r x) (sym (append-nil n))) refl refl);
           })
@@ -183,8 +200,9 @@ module _ (L : Layout) where
           taken r x = record { node = x; childPos = childOf L (r .branch) p; iter = r .rest }
 
   -- The first child is a full leaf, and the last level goes on.
-  pub next-big : 0 < L .entries → (k : ℕ) → Ends k → (S : List (List Slot)) (n : List Slot) (ll c m : ℕ) (es : List Pair) (p : ℕ) (bs : List ℕ) → L .entries < m → c + m ≡ ll
-      → length n + suc k ≡ L .entries → suc k + min m (suc (suc k) * L .entries) ≤ length es → (xs : List Pair) → drop (L .entries) es ≡ xs
+  next-big : 0 < L .entries → (k : ℕ) → Ends k → (S : List (List Slot)) (n : List Slot) (ll c m : ℕ) (es : List KeyValue) (p : ℕ) (bs : List ℕ)
+      → L .entries < m → c + m ≡ ll
+      → length n + suc k ≡ L .entries → suc k + min m (suc (suc k) * L .entries) ≤ length es → (xs : List KeyValue) → drop (L .entries) es ≡ xs
       → EndsBy (suc k) S n ll c es p bs (fillNext (fillBranches (fill L 0) k) (fillLeaf L (L .entries) (m - L .entries) es) xs)
   unfolding Ends EndsBy
   next-big some k ih S n ll c m es p bs b e h size [] x = absurd (omega (arith, length-drop (L .entries) es, ap length x))
@@ -201,16 +219,19 @@ module _ (L : Layout) where
       record {
         count = d .count;
         left = d .left;
-        leads = leads-then L ll (ready L (n ∷ S) 0 c es p bs) (ready L (n′ ∷ S) 0 (c + L .entries) xs p′ bs′) (climb L S (sg (R .last)) (shut L (d .count) n (moreOf (r .branch) y R) p bs))
+        leads = leads-then L ll (ready L (n ∷ S) 0 c es p bs) (ready L (n′ ∷ S) 0 (c + L .entries) xs p′ bs′)
+            (climb L S (extraLevel (R .last)) (shut L (d .count) n (moreOf (r .branch) y R) p bs))
             (leads-to L ll (ready L (n ∷ S) 0 c es p bs) (climb L (n ∷ S) 0 (done L (c + L .entries) r p bs)) (ready L (n′ ∷ S) 0 (c + L .entries) xs p′ bs′)
-            (leaf-full some (n ∷ S) ll c es p bs (m - L .entries) (omega arith) (λ i l z. omega arith)) (grown L S n 0 (c + L .entries) r p bs y xs (λ z. omega arith) x))
-            (leads-to L ll (ready L (n′ ∷ S) 0 (c + L .entries) xs p′ bs′) (climb L S (sg (R .last)) (shut L (d .count) n′ R p′ bs′)) (climb L S (sg (R .last)) (shut L (d .count) n (moreOf (r .branch) y R) p bs))
-            (d .leads) (shift-climb L S (sg (R .last)) (d .count) n (r .branch) y R p bs));
+            (leaf-full some (n ∷ S) ll c es p bs (m - L .entries) (omega arith) (λ i l z. omega arith))
+            (grown L S n 0 (c + L .entries) r p bs y xs (λ z. omega arith) x))
+            (leads-to L ll (ready L (n′ ∷ S) 0 (c + L .entries) xs p′ bs′) (climb L S (extraLevel (R .last)) (shut L (d .count) n′ R p′ bs′))
+            (climb L S (extraLevel (R .last)) (shut L (d .count) n (moreOf (r .branch) y R) p bs))
+            (d .leads) (shift-climb L S (extraLevel (R .last)) (d .count) n (r .branch) y R p bs));
       }
 
   -- The first child is the leaf that ends the last level.
-  pub next-small : (k : ℕ) (S : List (List Slot)) (n : List Slot) (ll c j : ℕ) (es : List Pair) (p : ℕ) (bs : List ℕ) → j < L .entries → c + suc j ≡ ll
-      → length n + suc k ≡ L .entries → suc k + suc j ≤ length es → (xs : List Pair) → drop (suc j) es ≡ xs
+  next-small : (k : ℕ) (S : List (List Slot)) (n : List Slot) (ll c j : ℕ) (es : List KeyValue) (p : ℕ) (bs : List ℕ) → j < L .entries → c + suc j ≡ ll
+      → length n + suc k ≡ L .entries → suc k + suc j ≤ length es → (xs : List KeyValue) → drop (suc j) es ≡ xs
       → EndsBy (suc k) S n ll c es p bs (fillNext (fillBranches (fill L 0) k) (fillLeaf L (suc j) 0 es) xs)
   unfolding EndsBy takeEntries
   next-small k S n ll c j es p bs b e h size [] x = absurd (omega (arith, length-drop (suc j) es, ap length x))
@@ -226,18 +247,20 @@ module _ (L : Layout) where
       record {
         count = ll;
         left = subst (λ (i : ℕ). Left ll ll i) (sym (B .last)) (omega arith);
-        leads = leads-to L ll (ready L (n ∷ S) 0 c es p bs) _ (climb L S (sg (R .last)) (shut L ll n (moreOf (r .branch) y R) p bs)) (leaf-last (n ∷ S) ll c j es p bs b (omega arith) e)
+        leads = leads-to L ll (ready L (n ∷ S) 0 c es p bs) _ (climb L S (extraLevel (R .last)) (shut L ll n (moreOf (r .branch) y R) p bs))
+            (leaf-last (n ∷ S) ll c j es p bs b (omega arith) e)
             (transit-shut S n r (moreOf (r .branch) y R) ll p bs
-            (ap (λ (i : ℕ). takeEntries L i n (childOf L (r .branch) p) (r .rest)) ek ∙ ap (λ (l : List Pair). takeEntries L (suc k) n (childOf L (r .branch) p) l) x
+            (ap (λ (i : ℕ). takeEntries L i n (childOf L (r .branch) p) (r .rest)) ek
+            ∙ ap (λ (l : List KeyValue). takeEntries L (suc k) n (childOf L (r .branch) p) l) x
             ∙ B .takes ∙ ap (λ (l : List Slot). taken R p′ l) (append-assoc n (s ∷ []) (slotsOf L (R .branches) p′)))
             (ap (λ (l : List ℕ). writeBranch L (r .branch) p ++ l) (B .bytes) ∙ append-nil (writeBranch L (r .branch) p)) (omega (arith, B .size))
-            ∙ ap (λ (i : ℕ). climb L S (sg i) (shut L ll n (moreOf (r .branch) y R) p bs)) (sym (B .last)));
+            ∙ ap (λ (i : ℕ). climb L S (extraLevel i) (shut L ll n (moreOf (r .branch) y R) p bs)) (sym (B .last)));
       }
     where
       taken : FilledBranches → ℕ → List Slot → Taken L
       taken R i l = record { node = l; childPos = greaterOf L (R .branches) i; iter = R .rest }
 
-  pub ends-more : 0 < L .entries → (k : ℕ) → Ends k → Ends (suc k)
+  ends-more : 0 < L .entries → (k : ℕ) → Ends k → Ends (suc k)
   unfolding Ends EndsBy
   ends-more some k ih S n ll c zero es p bs pos e h size = absurd (not-suc-le-zero pos)
   ends-more some k ih S n ll c (suc j) es p bs pos e h size = go (decLt (L .entries) (suc j))
@@ -248,7 +271,8 @@ module _ (L : Layout) where
 
       go : Dec (L .entries < suc j) → EndsBy (suc k) S n ll c es p bs (fillBranches (fill L 0) (suc k) (suc j) es)
       go (yes b) =
-          by (fillLeaf L (L .entries) (suc j - L .entries) es) (last-big (suc j) es b) (next-big some k ih S n ll c (suc j) es p bs b e h size (drop (L .entries) es) refl)
+          by (fillLeaf L (L .entries) (suc j - L .entries) es) (last-big (suc j) es b)
+          (next-big some k ih S n ll c (suc j) es p bs b e h size (drop (L .entries) es) refl)
       go (no b) =
           by (fillLeaf L (suc j) 0 es) (last-small j es (omega arith)) (next-small k S n ll c j es p bs (omega arith) e h (omega arith) (drop (suc j) es) refl)
 

@@ -11,8 +11,8 @@ use Rattle.format.specs.declared.Refusal.{Refusal}
 use Rattle.format.specs.Refusal.{Answer, gives, refuses, number, checkOf}
 use Rattle.format.specs.Layout.{layout32, standard, pointer, recordSize}
 use Rattle.format.specs.Check.{counted, checkArchive}
-use Rattle.format.specs.Laws.Read.Node.{Down}
-use Rattle.format.specs.Laws.Calls.Opened.{room-for, root-back}
+use Rattle.format.specs.Readable.{Down}
+use Rattle.format.specs.Laws.Calls.Accepted.{room-for, root-back}
 
 pub accepted-told : {a : Answer ℕ} {r : CheckAnswer} {n : ℕ} → r ≡ Accepted n → checkOf r ≡ a → a ≡ gives n
 accepted-told h e = sym e ∙ ap checkOf h

@@ -1,5 +1,5 @@
--- By which numbers each call refuses: check by 1 to 7 and certify by 1 to 9, a reader as the one of them that it runs, the column query also by 18, the
--- builder by 10 to 14, the parts by 15 to 17, key packing by 18. Assumes nothing.
+-- By which numbers each call refuses: a reader as check or certify, whichever it runs, the column query also by 18, the builder by 10 to 14, its length by
+-- 11 and 13, the parts by 15 to 17, key packing by 18. Assumes nothing.
 use Prim.Native.Nat.{ℕ, _+_, _^_, _≤_, _<_}
 use mathlib.Core.Path.{_≡_, refl, sym, ap, _∙_}
 use mathlib.Core.Logic.{_⊎_, inl, inr}
@@ -11,20 +11,21 @@ use lib.IntN.{ℤ, subℕ}
 use lib.Dec.{ltb, leb, eqb}
 use lib.Signed.{mag}
 use borrow.Author.Tests.{ltb-true, ltb-false}
 use Rattle.format.specs.declared.Bound.{Bound}
 use Rattle.format.specs.Layout.{Layout, Limits}
 use Rattle.format.specs.Refusal.{Answer, gives, refuses, provided, andThen, RefusesBy}
 use Rattle.format.specs.RelPtr.{fitSigned, signedOffset, storedOffset, absentOffset}
 use Rattle.format.specs.Align.{isAlignment, zerosTo, alignStep}
 use Rattle.format.specs.Key.{Column, packKey, columnBounds}
-use Rattle.format.specs.Check.{Checked, accepted, refused, counted, checkArchive}
+use Rattle.format.specs.Check.{counted, checkArchive}
 use Rattle.format.specs.Certify.{certify}
 use Rattle.format.specs.Build.{treeOf, behind, pairs, rises, build, buildLength}
 use Rattle.format.specs.Calls.{lookupCall, walkCall, rangeCall, columnCall, columnKeys, columnValues}
 use Rattle.format.specs.Laws.Numbers.RelPtr.{absent-last, stored-15, offset-behind, fits-refused}
-use Rattle.format.specs.Laws.Build.Stands.{absent-fits}
-use Rattle.format.specs.Laws.Check.Refusals.{UpTo, check-up, certify-up}
-use Rattle.format.specs.Laws.Calls.Opened.{lookup-refuses, lookup-accepted, walk-refuses, walk-accepted, range-refuses, range-keys-refuses, range-values-refuses, range-certified, column-ranges, column-keys-ranges, column-values-ranges, column-uncertified, column-refused, column-keys-refused, column-values-refused}
+use Rattle.format.specs.Laws.Build.BytesAt.{absent-fits}
+use Rattle.format.specs.Laws.Calls.Accepted.{lookup-refuses, lookup-accepted, walk-refuses, walk-accepted}
+use Rattle.format.specs.Laws.Calls.Certified.{range-refuses, range-keys-refuses, range-values-refuses, range-certified, column-ranges, column-values-refused}
+use Rattle.format.specs.Laws.Calls.Certified.{column-keys-ranges, column-values-ranges, column-uncertified, column-refused, column-keys-refused}
 
 -- ---- answers
 
@@ -114,11 +115,7 @@ length-by L n h r e = by (leb n 40000) (leb h 4096) _ e
     by true false x e = inr (sym (same-number e))
     by false b x e = inl (sym (same-number e))
 
--- ---- check and certify
-
-counted-by : (m : ℕ) (a : Checked) → UpTo m a → RefusesBy 1 m (counted a)
-counted-by m (accepted n t) u r e = absurd (given e)
-counted-by m (refused q) u r e = omega (arith, u, same-number e)
+-- ---- the readers
 
 -- A call with the answer a starts with one that answers c: where c gives, it gives; where c refuses, it refuses by the same number. So it refuses only where c
 -- does.
@@ -128,14 +125,6 @@ refused-first (gives n) a g h r e = absurd (given (sym (g n refl .1) ∙ e))
 refused-first (refuses q) a g h r e = ap refuses (same-number (sym (h q refl) ∙ e))
 
 module _ (L : Layout) (M : Limits) (s : List ℕ) where
-  pub check-by : RefusesBy 1 7 (counted (checkArchive L M s))
-  check-by = counted-by 7 (checkArchive L M s) (check-up L M s)
-
-  pub certify-by : RefusesBy 1 9 (counted (certify L M s))
-  certify-by = counted-by 9 (certify L M s) (certify-up L M s)
-
-  -- ---- the readers
-
   pub lookup-refused : (k r : ℕ) → lookupCall L M s k ≡ refuses r → counted (checkArchive L M s) ≡ refuses r
   lookup-refused k = refused-first _ _ (λ n e. (_, lookup-accepted L M s n e k)) (λ q e. lookup-refuses L M s q e k)
 
