@@ -220,14 +220,15 @@ module _ (exam eye : ℕ) (a b : ℤ) (ha : mag a < 128) (hb : mag b < 128) (c :
     small = small-x (e .key / 2 ^ 31 % 256) (omega arith)
 
     -- Where a and b lie on one side of 0, an entry matches exactly if it is of that examination and eye and its x is from a to b.
-    pub column-one-side : OneSide a b → (matched ≡ true) ↔ (OfEye exam eye (e .key) × (a ≤ℤ degrees) × (degrees ≤ℤ b))
+    pub column-one-side : OneSide a b
+        → (matches (c .lower) (c .upper) e ≡ true) ↔ (OfEye exam eye (e .key) × (a ≤ℤ fieldsOf (e .key) .x) × (fieldsOf (e .key) .x ≤ℤ b))
     column-one-side o = (
       λ m. let (i, l, u) = within m in let (p, q) = between a b degrees ha hb small o l u in (i, p, q),
       λ t. let (i, p, q) = t in let (l, u) = between-bits a b degrees ha hb small o p q in passes i l u,
     )
 
     -- From below 0 to 0 or above, nothing matches.
-    pub column-across : nonNeg a ≡ false → nonNeg b ≡ true → matched ≡ false
+    pub column-across : nonNeg a ≡ false → nonNeg b ≡ true → matches (c .lower) (c .upper) e ≡ false
     column-across p q = no-match matched (λ m. let (i, l, u) = within m in none-across a b degrees ha hb p q l u)
       where
         no-match : (m : Bool) → (m ≡ true → ⊥) → m ≡ false
@@ -235,7 +236,8 @@ module _ (exam eye : ℕ) (a b : ℤ) (ha : mag a < 128) (hb : mag b < 128) (c :
         no-match false h = refl
 
     -- From 0 or above to below 0, an entry of that examination and eye matches exactly if its x is from a on or up to b.
-    pub column-around : nonNeg a ≡ true → nonNeg b ≡ false → (matched ≡ true) ↔ (OfEye exam eye (e .key) × ((a ≤ℤ degrees) ⊎ (degrees ≤ℤ b)))
+    pub column-around : nonNeg a ≡ true → nonNeg b ≡ false
+        → (matches (c .lower) (c .upper) e ≡ true) ↔ (OfEye exam eye (e .key) × ((a ≤ℤ fieldsOf (e .key) .x) ⊎ (fieldsOf (e .key) .x ≤ℤ b)))
     column-around p q = (
       λ m. let (i, l, u) = within m in (i, around a b degrees ha hb small p q l u),
       λ t. let (i, s) = t in let (l, u) = around-bits a b degrees ha hb small p q s in passes i l u,
