@@ -1,7 +1,7 @@
 -- `certification::certify_inner` and `certification::certify_node`, which call each other, meet their contracts: the position falls where
 -- `certify_node` is called, and stays where `certify_inner` is. Assumes nothing.
 use Prim.Native.Nat.{ℕ, _+_, _-_, _≤_, _<_}
-use mathlib.Core.Path.{_≡_, refl, sym}
+use mathlib.Core.Path.{_≡_, refl, sym, _∙_}
 use mathlib.Core.List.{[]}
 use mathlib.Core.Bool.{Bool, false}
 use mathlib.Core.Logic.{⊎-elim, ⊎-map}
@@ -93,14 +93,14 @@ module _ (t : ℕ) (c : In-inner t inner-lts.At-match-came) where
       c .match .order ≡ runs step (onChild [] (listAt layout32 (a .archive .now) (nested standard)) next) (head .loop .order)
   joined =
       next-child layout32 _ (runs step) [] (runs-none step) _ _ _ _ _ _ (c .before .child-at .ensures)
-      (⊎-map (λ w. (_, w .1 .given .1, cc)) (λ w. (w .1 .given .1, cc)) (c .match .came))
+      (⊎-map (λ w. (_, w .1 .given .1, w .6 ∙ w .3 .ensures .0)) (λ w. (w .1 .given .1, w .3)) (c .match .came))
 
   flagged : let a = start t head .args in
       let next = childAt layout32 (a .archive .now) (child layout32 (a .pos .0) (head .loop .i)) in
       c .match .hollow ≡ raised (head .loop .hollow) (onChild false (hollowAt layout32 (a .archive .now) (nested standard)) next)
   flagged =
       next-child layout32 _ (λ (b : Bool) (h : ℕ). raised h b) false (λ h. sym (raised-not h)) _ _ _ _ _ _ (c .before .child-at .ensures)
-      (⊎-map (λ w. (_, w .1 .given .1, cc)) (λ w. (w .1 .given .1, cc)) (c .match .came))
+      (⊎-map (λ w. (_, w .1 .given .1, w .5 ∙ w .3 .ensures .1)) (λ w. (w .1 .given .1, w .2)) (c .match .came))
 
 -- Where the arms of the slot's test meet: one slot more, or none is left.
 passed : (t : ℕ) (c : In-inner t inner-lts.Joined1) →

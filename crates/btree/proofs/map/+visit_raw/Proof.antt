@@ -51,27 +51,28 @@ abbrev calls : ℕ → lts.Claims
 calls t =
     (visit-leaf.Asked, visit-leaf.Learnt, child-at.Asked, child-at.Learnt, below t, visit-raw.Post, visit-key-value-raw.Asked, visit-key-value-raw.Learnt)
 
+-- A place or a need.
 abbrev Of : ℕ → (lts.Claims → In 3 kinds.ps → Out 3 kinds.ps kinds.r → lts.InvT-loop → lts.MeasureT-loop → Type 0) → Type 0
-Of t need = need (calls t) (here t) visit-raw.Post Inv-loop μ-loop
+Of t place = place (calls t) (here t) visit-raw.Post Inv-loop μ-loop
+
+abbrev head : (t : ℕ) → Of t lts.After-child-at → Of t lts.At-loop
+head t c = search
+
+abbrev start : (t : ℕ) → Of t lts.After-child-at → Of t lts.Start
+start t c = search
 
 -- Where the arms of the child's test meet: the child's entries are written, or there is no child.
 module _ (t : ℕ) (c : Of t lts.At-match-came) where
-  abbrev head : Of t lts.At-loop
-  head = search
-
-  abbrev start : Of t lts.Start
-  start = search
-
-  lengths : (length (c .match .keys) ≡ length (head .loop .keys)) × (length (c .match .values) ≡ length (head .loop .values))
+  lengths : let o = head t (c .before) .loop in (length (c .match .keys) ≡ length (o .keys)) × (length (c .match .values) ≡ length (o .values))
   lengths = ⊎-elim (λ w. (cc, cc)) (λ w. (cc, cc)) (c .match .came)
 
-  joined : out (c .match .keys) (c .match .values) (c .match .at)
-      ≡ fill (onChild [] (listAt layout32 (start .args .archive .now) (nested standard))
-      (childAt layout32 (start .args .archive .now) (child layout32 (start .args .pos .0) (head .loop .i))))
-      (out (head .loop .keys) (head .loop .values) (head .loop .at))
+  joined : let a = start t (c .before) .args in let o = head t (c .before) .loop in
+      let next = childAt layout32 (a .archive .now) (child layout32 (a .pos .0) (o .i)) in
+      out (c .match .keys) (c .match .values) (c .match .at)
+      ≡ fill (onChild [] (listAt layout32 (a .archive .now) (nested standard)) next) (out (o .keys) (o .values) (o .at))
   joined =
       next-child layout32 _ fill [] (runs-none put) _ _ _ _ _ _ (c .before .child-at .ensures)
-      (⊎-map (λ w. (_, w .1 .given .1, cc)) (λ w. (w .1 .given .1, cc)) (c .match .came))
+      (⊎-map (λ w. (_, w .1 .given .1, rw (w .10, w .11, w .12) (w .5 .ensures))) (λ w. (w .1 .given .1, cc)) (c .match .came))
 
 returns : (t : ℕ) → Of t lts.Need-returns
 returns t c =
