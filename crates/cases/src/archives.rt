@@ -16,8 +16,6 @@ use fieldmap::LookupAnswer;
 use fieldmap::RangeAnswer;
 use fieldmap::WalkAnswer;
 use fields::primitive::u64_at;
-use format::CheckAnswer;
-use format::Refusal;
 use libc::STDIN_FILENO;
 
 // The lent lists differ in length, here and in the ranges: the shorter has 64 places.

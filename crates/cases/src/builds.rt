@@ -8,7 +8,6 @@ use crate::output::print_checked;
 use crate::output::print_line;
 use crate::output::print_refused;
 use builder::build::BuildAnswer;
-use format::CheckAnswer;
 ghost use mathlib.Core.Path.{_≡_};
 ghost use lib.ListN.{length, replicate};
 

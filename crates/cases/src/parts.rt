@@ -5,15 +5,12 @@ use crate::input::next_u32;
 use crate::input::next_u64;
 use crate::output::print;
 use crate::output::print_line;
-use crate::output::print_number;
 use crate::output::print_pair;
 use crate::output::print_refused;
 use crate::output::print_signed;
 use fields::rel_ptr::Distance;
 use fields::rel_ptr::Stored;
 use fields::ser::writer::Aligned;
-use format::Refusal;
-use perimetry::key::KeyFields;
 use perimetry::key::Packed;
 ghost use mathlib.Core.Path.{_≡_};
 
