@@ -41,8 +41,7 @@ use Rattle.format.specs.Laws.Check.Refusals.{check-by, certify-by}
 use Rattle.format.specs.Laws.Check.Archive.{field-lands, field-apart, field-once, list-length}
 use Rattle.format.specs.Laws.Certify.Certified.{lookup-certified}
 use Rattle.format.specs.Laws.Calls.Accepted.{certify-refuses, lookup-refuses, bytes-refuses, place-refuses, walk-refuses, walk-keys-refuses}
-use Rattle.format.specs.Laws.Calls.Accepted.{walk-values-refuses}
-use Rattle.format.specs.Laws.Calls.Accepted.{is-recorded, is-archive}
+use Rattle.format.specs.Laws.Calls.Accepted.{walk-values-refuses, is-recorded, is-archive}
 use Rattle.format.specs.Laws.Calls.Accepted.{lookup-accepted, bytes-accepted, place-accepted, walk-accepted, walk-keys-accepted, walk-values-accepted}
 use Rattle.format.specs.Laws.Calls.Certified.{range-refuses, range-keys-refuses, range-values-refuses, column-uncertified}
 use Rattle.format.specs.Laws.Calls.Certified.{certified-exactly, is-certified, certified-accepts, range-certified, range-keys-certified, range-values-certified}
@@ -69,11 +68,8 @@ pub record CheckRefused (s : List ℕ) (r : ℕ) : Type 0 where
 
 pub demand-1-check-refused : (s : List ℕ) (r : ℕ) → counted (checkArchive layout32 standard s) ≡ refuses r → CheckRefused s r
 demand-1-check-refused s r e =
-    record {
-      certifying = certify-refuses layout32 standard s r e;
-      lookup = lookup-refuses layout32 standard s r e;
-      walk = walk-refuses layout32 standard s r e;
-    }
+    let c = certify-refuses layout32 standard s r e in
+    record { certifying = c; lookup = lookup-refuses layout32 standard s r e; walk = walk-refuses layout32 standard s r e }
 
 pub record CertifyRefused (s : List ℕ) (r : ℕ) : Type 0 where
   pub range : (lo hi : Bound) (ks vs : List ℕ) → rangeCall layout32 standard s lo hi ks vs ≡ refuses r
