@@ -33,7 +33,7 @@ or-right true b e = absurd (true≢false refl e)
 or-right false b e = e
 
 module _ (L : Layout) (s : List ℕ) where
-  -- What is known one level down: no field reachable from one that leads to a node N leads to a hollow L s node.
+  -- What is known one level down: no field reachable from one that leads to a node N leads to a hollow node.
   SolidBelow : (N : ℕ → ℕ → ℕ → ℕ → Type 0) → (ℕ → Bool) → Type 0
   SolidBelow N any =
       (lo hi p n g f q : ℕ) → N lo hi p n → any p ≡ false → target L s g ≡ at p → From L s g f → target L s f ≡ at q → hollow L s q (kind L s q) ≡ false

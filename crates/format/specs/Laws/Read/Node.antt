@@ -1,5 +1,5 @@
--- What the readers ask of a node, and that an accepted archive gives it: a node that the check accepted, without the check's ranges.
--- Assumes nothing.
+-- An accepted archive gives what the readers require of a node, its list, lookup and hollow nodes go one level at a time, and positions fall from node
+-- to child. Assumes nothing.
 use Prim.Native.Nat.{ℕ, zero, suc, _+_, _≤_, _<_}
 use mathlib.Core.Path.{_≡_, refl, sym, _∙_, subst}
 use mathlib.Core.Bool.{false}
