@@ -1,6 +1,6 @@
 -- `btree::map::visit_raw` meets its contract: the node's position falls. Assumes nothing.
 use Prim.Native.Nat.{ℕ, _+_, _-_, _≤_, _<_}
-use mathlib.Core.Path.{_≡_}
+use mathlib.Core.Path.{_≡_, ap, _∙_}
 use mathlib.Core.List.{[]}
 use mathlib.Core.Logic.{⊎-elim, ⊎-map}
 use native.Mathlib.Omega.{arith}
@@ -64,7 +64,8 @@ start t c = search
 -- Where the arms of the child's test meet: the child's entries are written, or there is no child.
 module _ (t : ℕ) (c : Of t lts.At-match-came) where
   lengths : let o = head t (c .before) .loop in (length (c .match .keys) ≡ length (o .keys)) × (length (c .match .values) ≡ length (o .values))
-  lengths = ⊎-elim (λ w. (cc, cc)) (λ w. (cc, cc)) (c .match .came)
+  lengths =
+      ⊎-elim (λ w. (ap length (w .10) ∙ w .6 .given, ap length (w .11) ∙ w .8 .given)) (λ w. (ap length (w .2), ap length (w .3))) (c .match .came)
 
   joined : let a = start t (c .before) .args in let o = head t (c .before) .loop in
       let next = childAt layout32 (a .archive .now) (child layout32 (a .pos .0) (o .i)) in
@@ -72,7 +73,7 @@ module _ (t : ℕ) (c : Of t lts.At-match-came) where
       ≡ fill (onChild [] (listAt layout32 (a .archive .now) (nested standard)) next) (out (o .keys) (o .values) (o .at))
   joined =
       next-child layout32 _ fill [] (runs-none put) _ _ _ _ _ _ (c .before .child-at .ensures)
-      (⊎-map (λ w. (_, w .1 .given .1, rw (w .10, w .11, w .12) (w .5 .ensures))) (λ w. (w .1 .given .1, cc)) (c .match .came))
+      (⊎-map (λ w. (_, w .1 .given .1, rw (w .10, w .11, w .12) (w .5 .ensures))) (λ w. (w .1 .given .1, rw (w .2, w .3, w .4))) (c .match .came))
 
 returns : (t : ℕ) → Of t lts.Need-returns
 returns t c =
@@ -102,8 +103,13 @@ visit-raw-requires t c κs =
 loop-again : (t : ℕ) → Of t lts.Need-loop-again
 loop-again t c =
     let met : Of t lts.At-match-came = search in
-    let l = lengths t met in
-    (search needs, search needs, cc, cc, search (inner-step, joined t met))
+    let inv = head t (met .before) .loop .inv in (
+      search needs,
+      search needs,
+      c .before .before .before .keys3 .given ∙ lengths t met .0 ∙ inv .2,
+      c .before .values3 .given ∙ lengths t met .1 ∙ inv .3,
+      search (inner-step, joined t met),
+    )
 
 child-at-requires-2 : (t : ℕ) → Of t lts.Need-child-at-requires-2
 child-at-requires-2 t c κs = (search as-inner, omega arith)

@@ -1,6 +1,6 @@
 -- `ranges::iter::range_inner` and `ranges::iter::range_node`, which call each other, meet their contracts: the node's position falls. Assumes nothing.
 use Prim.Native.Nat.{ℕ, _+_, _-_, _<_, _≤_}
-use mathlib.Core.Path.{_≡_, refl, _∙_}
+use mathlib.Core.Path.{_≡_, refl, ap, _∙_}
 use mathlib.Core.List.{[]}
 use mathlib.Core.Bool.{true}
 use mathlib.Core.Logic.{⊎-elim, ⊎-map}
@@ -86,7 +86,8 @@ start t c = search
 -- Where the arms of the child's test meet: what the child gives is done, or there is no child.
 module _ (t : ℕ) (c : In-inner t inner-lts.At-match-came) where
   lengths : let o = head t (c .before) .loop in (length (c .match .keys) ≡ length (o .keys)) × (length (c .match .values) ≡ length (o .values))
-  lengths = ⊎-elim (λ w. (cc, cc)) (λ w. (cc, cc)) (c .match .came)
+  lengths =
+      ⊎-elim (λ w. (ap length (w .10) ∙ w .6 .given, ap length (w .11) ∙ w .8 .given)) (λ w. (ap length (w .2), ap length (w .3))) (c .match .came)
 
   joined : let a = start t (c .before) .args in let o = head t (c .before) .loop in
       sink (c .match .keys) (c .match .values) (c .match .done .written) (c .match .done .matching)
@@ -94,7 +95,7 @@ module _ (t : ℕ) (c : In-inner t inner-lts.At-match-came) where
       (sink (o .keys) (o .values) (o .done .written) (o .done .matching))
   joined =
       next-child layout32 _ (ranged _ _) [] (runs-none _) _ _ _ _ _ _ (c .before .child-at .ensures)
-      (⊎-map (λ w. (_, w .1 .given .1, rw (w .10, w .11, w .12) (w .5 .ensures))) (λ w. (w .1 .given .1, cc)) (c .match .came))
+      (⊎-map (λ w. (_, w .1 .given .1, rw (w .10, w .11, w .12) (w .5 .ensures))) (λ w. (w .1 .given .1, rw (w .2, w .3, w .4))) (c .match .came))
 
 -- Past both tests the slot matches.
 hit : (t : ℕ) (c : In-inner t inner-lts.Else2)
@@ -152,13 +153,13 @@ inner-loop-again-2 t c =
     let noted : In-inner t inner-lts.After-range-slot = search in
     let past : In-inner t inner-lts.Else2 = search in
     let met = past .before in
-    let l = lengths t met in (
+    let inv = head t (met .before) .loop .inv in (
       search needs,
       search needs,
-      cc,
-      cc,
+      c .before .before .before .keys2 .given ∙ lengths t met .0 ∙ inv .2,
+      c .before .values2 .given ∙ lengths t met .1 ∙ inv .3,
       search rest-ascends,
-      inner-take layout32 _ _ _ standard _ _ _ _ _ _ (search) (joined t met) (hit t past) (noted .range-slot .ensures) (head t (met .before) .loop .inv .5),
+      inner-take layout32 _ _ _ standard _ _ _ _ _ _ (search) (joined t met) (hit t past) (noted .range-slot .ensures) (inv .5),
     )
 
 inner-returns-2 : (t : ℕ) → In-inner t inner-lts.Need-returns-2
