@@ -1,10 +1,10 @@
 // Keys and values. x and y are signed numbers of 8 bits.
-use crate::codes::refused;
+use codes::refused;
 use perimetry::key::Packed;
 ghost use mathlib.Core.Path.{_≡_};
 ghost use Rattle.format.specs.Refusal.{gives};
 ghost use Rattle.format.specs.Key.{packKey, fieldsOf, seen, threshold};
-ghost use Rattle.exports.specs.Answers.{coded, Tells, stored, seenFlag};
+ghost use Rattle.codes.specs.Answers.{coded, Tells, stored, seenFlag};
 
 // Stores the key of an examination's fields and answers 0.
 #[no_mangle]

@@ -1,6 +1,5 @@
 // The calls for programs in C and Rust. A slice passes as a pointer and a length, a lent number as a pointer. A call answers a number from 0 on, or on a
 // refusal minus the refusal's number. What the answer has no room for is stored through lent numbers. A refused call leaves what was lent as it was.
-mod codes;
 pub mod key;
 pub mod many;
 pub mod parts;

@@ -1,12 +1,12 @@
 // The parts: differences and offsets of positions, and the alignment step. Each stores what it gives and answers 0.
-use crate::codes::refused;
+use codes::refused;
 use fields::rel_ptr::Distance;
 use fields::rel_ptr::Stored;
 use fields::ser::writer::Aligned;
 ghost use mathlib.Core.Path.{_≡_};
 ghost use Rattle.format.specs.RelPtr.{signedOffset, storedOffset, absentOffset};
 ghost use Rattle.format.specs.Align.{alignStep};
-ghost use Rattle.exports.specs.Answers.{coded, Tells, stored, stepNext, stepZeros};
+ghost use Rattle.codes.specs.Answers.{coded, Tells, stored, stepNext, stepZeros};
 
 // The signed difference of two positions.
 #[no_mangle]

@@ -1,12 +1,12 @@
 // Ranges of keys of a certified archive.
-use crate::codes::bound;
-use crate::codes::given;
-use crate::codes::refused;
+use codes::bound;
+use codes::given;
+use codes::refused;
 use fieldmap::RangeAnswer;
 ghost use mathlib.Core.Path.{_≡_};
 ghost use Rattle.format.specs.Layout.{layout32, standard};
 ghost use Rattle.format.specs.Calls.{rangeCall, rangeKeys, rangeValues, columnCall, columnKeys, columnValues};
-ghost use Rattle.exports.specs.Answers.{coded, Tells, stored, boundOf, rangeWritten, rangeMatching};
+ghost use Rattle.codes.specs.Answers.{coded, Tells, stored, boundOf, rangeWritten, rangeMatching};
 
 // Writes keys and values of the entries that meet both bounds until the shorter list is full, and stores how many there are. The number written.
 #[no_mangle]

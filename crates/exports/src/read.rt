@@ -1,7 +1,7 @@
 // The readers of an archive: check, certify, lookup and walk.
-use crate::codes::counted;
-use crate::codes::given;
-use crate::codes::refused;
+use codes::counted;
+use codes::given;
+use codes::refused;
 use fieldmap::LookupAnswer;
 use fieldmap::WalkAnswer;
 ghost use mathlib.Core.Path.{_≡_};
@@ -10,8 +10,8 @@ ghost use Rattle.format.specs.Layout.{layout32, standard};
 ghost use Rattle.format.specs.Check.{counted, checkArchive};
 ghost use Rattle.format.specs.Certify.{certify};
 ghost use Rattle.format.specs.Calls.{lookupCall, bytesCall, walkCall, walkKeys, walkValues};
-ghost use Rattle.exports.specs.Answers.{coded, Tells, stored, foundFlag, partLength, lengthTold, storedFound};
-ghost use Rattle.exports.specs.Answers.{entryValue, entryPosition, walkWritten, walkCount};
+ghost use Rattle.codes.specs.Answers.{coded, Tells, stored, foundFlag, partLength, lengthTold, storedFound};
+ghost use Rattle.codes.specs.Answers.{entryValue, entryPosition, walkWritten, walkCount};
 
 // The recorded count, or the first fault of 1 to 7.
 #[no_mangle]

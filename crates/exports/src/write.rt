@@ -1,12 +1,12 @@
 // The builder.
-use crate::codes::given;
-use crate::codes::refused;
 use builder::build::BuildAnswer;
+use codes::given;
+use codes::refused;
 ghost use mathlib.Core.Path.{_≡_};
 ghost use lib.ListN.{length};
 ghost use Rattle.format.specs.Layout.{layout32};
 ghost use Rattle.format.specs.Build.{build, buildLength, outAfter};
-ghost use Rattle.exports.specs.Answers.{coded, Tells};
+ghost use Rattle.codes.specs.Answers.{coded, Tells};
 
 // Writes the given entries as an archive behind the first `header` bytes of the output, which stay. The archive's end.
 #[no_mangle]

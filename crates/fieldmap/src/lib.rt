@@ -273,24 +273,5 @@ pub fn threshold(value: u64) -> u16
 pub fn refusal_number(why: Refusal) -> u64
     ensures { λ r. ⌜ r ≡ number why ⌝ }
 {
-    match why {
-        Refusal::ArchiveTooLong => 1,
-        Refusal::InvalidSubtreePointer => 2,
-        Refusal::UnalignedPointer => 3,
-        Refusal::InvalidKind => 4,
-        Refusal::ExceededMaximumSubtreeDepth => 5,
-        Refusal::InvalidLength => 6,
-        Refusal::EntriesLengthMismatch => 7,
-        Refusal::HollowNode => 8,
-        Refusal::KeysNotAscending => 9,
-        Refusal::IteratorLengthMismatch => 10,
-        Refusal::TooManyEntries => 11,
-        Refusal::GivenKeysNotAscending => 12,
-        Refusal::HeaderTooLong => 13,
-        Refusal::OutputTooShort => 14,
-        Refusal::IsizeOverflow => 15,
-        Refusal::OffsetOverflow => 16,
-        Refusal::InvalidAlignment => 17,
-        Refusal::KeyFieldOverflow => 18,
-    }
+    why.number()
 }

@@ -7,7 +7,8 @@ use native.Mathlib.Omega.{arith}
 use borrow.Author.Tests.{lt-ltb}
 use lib.ListN.{length, take}
 use lib.Seq.{take-all, length-take-le}
-use Rattle.listing.specs.Listing.{decimal, printed}
+use Rattle.text.specs.Decimal.{decimal}
+use Rattle.listing.specs.Listing.{printed}
 
 -- `refused 1` in ASCII, with its line's end.
 pub too-long : (s : List ℕ) → 65536 < length s → printed s ≡ 114 ∷ 101 ∷ 102 ∷ 117 ∷ 115 ∷ 101 ∷ 100 ∷ 32 ∷ 49 ∷ 10 ∷ []

@@ -1,5 +1,5 @@
 -- What the program prints of its input. Document 01, "Program `fieldlist`". Assumes nothing: these are definitions.
-use Prim.Native.Nat.{ℕ, zero, suc, _+_, _/_, _%_}
+use Prim.Native.Nat.{ℕ, zero, suc}
 use mathlib.Core.Bool.{cond}
 use mathlib.Core.List.{List, [], _∷_, _++_}
 use lib.Dec.{ltb}
@@ -9,17 +9,9 @@ use Rattle.format.specs.Layout.{layout32, standard}
 use Rattle.format.specs.Check.{accepted, refused, checkArchive}
 use Rattle.format.specs.Certify.{certify}
 use Rattle.format.specs.Entries.{list}
+use Rattle.text.specs.Decimal.{decimal}
 use Rattle.listing.specs.declared.Title.{Title}
 use Rattle.listing.specs.declared.Title.the-variants.{Certified, Open, Refused}
-
--- "decimal": n in ASCII digits with no zero in front, where n has at most f + 1 digits.
-abbrev pub decimalOf : ℕ → ℕ → List ℕ
-decimalOf zero n = (48 + n % 10) ∷ []
-decimalOf (suc f) n = cond (ltb n 10) ((48 + n % 10) ∷ []) (decimalOf f (n / 10) ++ ((48 + n % 10) ∷ []))
-
--- A 64-bit number has at most 20 digits.
-unfoldable pub decimal : ℕ → List ℕ
-decimal n = decimalOf 19 n
 
 -- "First line: `certified`, or `open` if only accepted, and the count"; "A refusal prints `refused` and the number."
 unfoldable pub title : List ℕ → Title

@@ -2,11 +2,14 @@
 // on a line. More than 65,536 bytes are refused. The text is `printed` of specs/Listing.antt.
 use fieldmap::WalkAnswer;
 use format::CheckAnswer;
+use text::put;
+use text::put_decimal;
 ghost use mathlib.Core.Path.{_≡_};
 ghost use mathlib.Core.List.{[], _∷_, _++_};
 ghost use Prim.Native.Nat.{_+_, _*_, _≤_};
 ghost use lib.ListN.{length, take, drop};
-ghost use Rattle.listing.specs.Listing.{decimal, title, titleLine, entryLine, firstLines, listing, printed};
+ghost use Rattle.text.specs.Decimal.{decimal};
+ghost use Rattle.listing.specs.Listing.{title, titleLine, entryLine, firstLines, listing, printed};
 
 // The longest input that is listed, in bytes.
 const LONGEST_INPUT: usize = 65536;
@@ -35,32 +38,6 @@ fn title_of(archive: &[u8]) -> Title
         CheckAnswer::Accepted(count) => Title::Open(count as u64),
         CheckAnswer::Refused(why) => Title::Refused(fieldmap::refusal_number(why)),
     }
-}
-
-// Puts bytes into the text from a place on. The place after them; the bytes from there on stay.
-fn put(text: &mut [u8], at: usize, bytes: &[u8]) -> usize
-    requires { ⌜ at + length (now bytes) ≤ length (now text) ⌝ }
-    ensures end { λ r. ⌜ r ≡ at + length (now (bytes .entry)) ⌝ }
-    ensures text { λ r. ⌜ take r (now (text .exit)) ≡ take at (now (text .entry)) ++ now (bytes .entry) ⌝ }
-    ensures rest { λ r. ⌜ drop r (now (text .exit)) ≡ drop r (now (text .entry)) ⌝ }
-{
-    let mut i = 0;
-    while i < bytes.len() {
-        text[at + i] = bytes[i];
-        i += 1;
-    }
-    at + i
-}
-
-fn put_decimal(text: &mut [u8], at: usize, number: u64) -> usize
-    requires { ⌜ at + 20 ≤ length (now text) ⌝ }
-    ensures end { λ r. ⌜ (at ≤ r) × (r ≤ at + 20) ⌝ }
-    ensures text { λ r. ⌜ take r (now (text .exit)) ≡ take at (now (text .entry)) ++ decimal number ⌝ }
-    ensures rest { λ r. ⌜ drop r (now (text .exit)) ≡ drop r (now (text .entry)) ⌝ }
-{
-    let mut digits = [0u8; 20];
-    let count = io::decimal(number, &mut digits);
-    put(text, at, &digits[..count])
 }
 
 // A line at the start of the text: a word and a number.

@@ -2,7 +2,7 @@
 use mathlib.Core.Path.{_∙_}
 use native.Mathlib.Omega.{arith}
 use borrow.Author.Needs.{needs}
-use Rattle.listing.proofs.Texts.{stays}
+use Rattle.text.proofs.Texts.{stays}
 use Rattle.listing.proofs.put_counted.Statement.{statement}
 use Rattle.listing.proofs.put_counted.Tie as tie
 
@@ -13,7 +13,7 @@ returns c =
     let word : tie.After-put = search in (
       omega arith,
       (
-        cc,
+        ended .put2 .ensures .1 .0 ∙ rw (number .put-decimal .ensures .1 .0, word .put .ensures .1 .0),
         ended .put2 .ensures .1 .1
             ∙ stays (number .put-decimal .result) (ended .put2 .result) _ _ (omega arith) (number .put-decimal .ensures .1 .1)
             ∙ stays (word .put .result) (ended .put2 .result) _ _ (omega arith) (word .put .ensures .1 .1),

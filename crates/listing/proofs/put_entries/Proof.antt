@@ -6,7 +6,8 @@ use native.Mathlib.Omega.{arith}
 use lib.ListN.{length, take, drop}
 use borrow.Author.Needs.{needs}
 use Rattle.listing.specs.Listing.{firstLines}
-use Rattle.listing.proofs.Texts.{stays, none-behind, line-more}
+use Rattle.text.proofs.Texts.{stays}
+use Rattle.listing.proofs.Texts.{none-behind, line-more}
 use Rattle.listing.proofs.put_entries.Statement.{statement}
 use Rattle.listing.proofs.put_entries.Tie as tie
 
@@ -44,7 +45,7 @@ returns c =
     let start : tie.Start Inv-loop μ-loop = search in
     let turn : tie.At-loop Inv-loop μ-loop = search in
     let w : turn .loop .i ≡ start .args .count = omega arith in
-    (omega arith, (cc, turn .loop .inv .5))
+    (omega arith, (rw w at (turn .loop .inv .4), turn .loop .inv .5))
 
 pub put-entries-spec : {M : Type 1} → statement M
 put-entries-spec =

@@ -7,7 +7,7 @@ use lib.ListN.{length, replicate, length-replicate}
 use borrow.Author.Needs.{needs}
 use Rattle.fieldmap.specs.Answers.{walkOf}
 use Rattle.listing.specs.Listing.{titleLine}
-use Rattle.listing.proofs.Texts.{stays}
+use Rattle.text.proofs.Texts.{stays}
 use Rattle.listing.proofs.Listed.{listing-refused, Listed, listed, joined}
 use Rattle.listing.proofs.put_listing.Statement.{statement}
 use Rattle.listing.proofs.put_listing.Tie as tie

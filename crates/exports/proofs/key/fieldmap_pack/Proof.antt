@@ -3,7 +3,7 @@ use mir.Facts.{toZ-ofZ}
 use mathlib.Core.Path.{refl, _∙_, sym, ap}
 use borrow.Author.Needs.{needs}
 use Rattle.perimetry.specs.Answers.{packedOf}
-use Rattle.exports.proofs.Given.{part-given, part-refused}
+use Rattle.codes.proofs.Coded.{part-given, part-refused}
 use Rattle.exports.proofs.key.fieldmap_pack.Statement.{statement}
 use Rattle.exports.proofs.key.fieldmap_pack.Tie as tie
 

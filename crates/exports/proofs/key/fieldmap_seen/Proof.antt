@@ -3,7 +3,7 @@ use mathlib.Core.Path.{_∙_, sym, ap}
 use mathlib.Core.Bool.{Bool}
 use borrow.Author.Needs.{needs}
 use lib.IntN.{pos}
-use Rattle.exports.specs.Answers.{seenFlag}
+use Rattle.codes.specs.Answers.{seenFlag}
 use Rattle.exports.proofs.key.fieldmap_seen.Statement.{statement}
 use Rattle.exports.proofs.key.fieldmap_seen.Tie as tie
 

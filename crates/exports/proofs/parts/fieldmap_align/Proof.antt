@@ -2,9 +2,9 @@
 use mathlib.Core.Path.{refl, _∙_, sym, ap}
 use borrow.Author.Needs.{needs}
 use Rattle.format.specs.Align.{Step}
-use Rattle.exports.specs.Answers.{stepNext, stepZeros}
+use Rattle.codes.specs.Answers.{stepNext, stepZeros}
 use Rattle.fields.specs.Answers.{alignedOf}
-use Rattle.exports.proofs.Given.{answers-given, answers-refused, store-given, store-refused}
+use Rattle.codes.proofs.Coded.{answers-given, answers-refused, store-given, store-refused}
 use Rattle.exports.proofs.parts.fieldmap_align.Statement.{statement}
 use Rattle.exports.proofs.parts.fieldmap_align.Tie as tie
 

@@ -5,8 +5,8 @@ use borrow.Author.Needs.{needs}
 use Rattle.format.specs.Layout.{layout32, standard}
 use Rattle.exports.proofs.Numbers.{range-fits}
 use Rattle.fieldmap.specs.Answers.{rangeOf}
-use Rattle.exports.specs.Answers.{rangeWritten, rangeMatching}
-use Rattle.exports.proofs.Given.{answers-given, answers-refused, returned, store-given, store-refused}
+use Rattle.codes.specs.Answers.{rangeWritten, rangeMatching}
+use Rattle.codes.proofs.Coded.{answers-given, answers-refused, returned, store-given, store-refused}
 use Rattle.exports.proofs.range.fieldmap_range.Statement.{statement}
 use Rattle.exports.proofs.range.fieldmap_range.Tie as tie
 

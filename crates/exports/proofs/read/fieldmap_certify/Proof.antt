@@ -6,8 +6,8 @@ use borrow.Author.Needs.{needs}
 use Rattle.format.specs.Layout.{layout32, standard}
 use Rattle.exports.proofs.Numbers.{count-fits}
 use Rattle.format.specs.Laws.Calls.Certified.{certified-accepts}
-use Rattle.exports.specs.Answers.{coded}
-use Rattle.exports.proofs.Given.{told-counted, returned}
+use Rattle.codes.specs.Answers.{coded}
+use Rattle.codes.proofs.Coded.{told-counted, returned}
 use Rattle.exports.proofs.read.fieldmap_certify.Statement.{statement}
 use Rattle.exports.proofs.read.fieldmap_certify.Tie as tie
 

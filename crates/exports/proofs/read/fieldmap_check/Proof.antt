@@ -5,8 +5,8 @@ use native.Mathlib.Omega.{arith}
 use borrow.Author.Needs.{needs}
 use Rattle.format.specs.Layout.{layout32, standard}
 use Rattle.exports.proofs.Numbers.{count-fits}
-use Rattle.exports.specs.Answers.{coded}
-use Rattle.exports.proofs.Given.{told-counted, returned}
+use Rattle.codes.specs.Answers.{coded}
+use Rattle.codes.proofs.Coded.{told-counted, returned}
 use Rattle.exports.proofs.read.fieldmap_check.Statement.{statement}
 use Rattle.exports.proofs.read.fieldmap_check.Tie as tie
 

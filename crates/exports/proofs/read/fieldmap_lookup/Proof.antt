@@ -2,8 +2,8 @@
 use mathlib.Core.Path.{refl, _∙_, sym, ap}
 use borrow.Author.Needs.{needs}
 use Rattle.fieldmap.specs.Answers.{lookupOf}
-use Rattle.exports.specs.Answers.{foundFlag, entryValue, entryPosition}
-use Rattle.exports.proofs.Given.{answers-given, answers-refused, found-stored, nothing-stored, refused-stored}
+use Rattle.codes.specs.Answers.{foundFlag, entryValue, entryPosition}
+use Rattle.codes.proofs.Coded.{answers-given, answers-refused, found-stored, nothing-stored, refused-stored}
 use Rattle.exports.proofs.read.fieldmap_lookup.Statement.{statement}
 use Rattle.exports.proofs.read.fieldmap_lookup.Tie as tie
 

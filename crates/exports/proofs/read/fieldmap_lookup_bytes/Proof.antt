@@ -3,9 +3,9 @@ use mathlib.Core.Path.{refl, _∙_, sym, ap}
 use borrow.Author.Needs.{needs}
 use Rattle.fieldmap.specs.Answers.{lookupOf}
 use Rattle.format.specs.Layout.{layout32, standard}
-use Rattle.exports.specs.Answers.{partLength, entryPosition}
-use Rattle.exports.proofs.Given.{answers-given, answers-refused, returned, no-bytes}
-use Rattle.exports.proofs.Given.{found-stored, nothing-stored, refused-stored, found-part, nothing-part, refused-part}
+use Rattle.codes.specs.Answers.{partLength, entryPosition}
+use Rattle.codes.proofs.Coded.{answers-given, answers-refused, returned, no-bytes}
+use Rattle.codes.proofs.Coded.{found-stored, nothing-stored, refused-stored, found-part, nothing-part, refused-part}
 use Rattle.exports.proofs.read.fieldmap_lookup_bytes.Statement.{statement}
 use Rattle.exports.proofs.read.fieldmap_lookup_bytes.Tie as tie
 

@@ -5,8 +5,8 @@ use borrow.Author.Needs.{needs}
 use Rattle.format.specs.Layout.{layout32, standard}
 use Rattle.exports.proofs.Numbers.{walk-fits}
 use Rattle.fieldmap.specs.Answers.{walkOf}
-use Rattle.exports.specs.Answers.{walkWritten, walkCount}
-use Rattle.exports.proofs.Given.{answers-given, answers-refused, returned, store-given, store-refused}
+use Rattle.codes.specs.Answers.{walkWritten, walkCount}
+use Rattle.codes.proofs.Coded.{answers-given, answers-refused, returned, store-given, store-refused}
 use Rattle.exports.proofs.read.fieldmap_walk.Statement.{statement}
 use Rattle.exports.proofs.read.fieldmap_walk.Tie as tie
 

@@ -6,7 +6,7 @@ use borrow.Author.Needs.{needs}
 use Rattle.format.specs.Layout.{standard}
 use Rattle.exports.proofs.Numbers.{build-fits}
 use Rattle.builder.specs.Answers.{builtOf}
-use Rattle.exports.proofs.Given.{answers-given, answers-refused, returned}
+use Rattle.codes.proofs.Coded.{answers-given, answers-refused, returned}
 use Rattle.exports.proofs.write.fieldmap_build.Statement.{statement}
 use Rattle.exports.proofs.write.fieldmap_build.Tie as tie
 

@@ -6,7 +6,7 @@ use borrow.Author.Needs.{needs}
 use Rattle.format.specs.Layout.{standard}
 use Rattle.exports.proofs.Numbers.{length-fits}
 use Rattle.builder.specs.Answers.{builtOf}
-use Rattle.exports.proofs.Given.{code-given, code-refused, told-given, told-refused, returned}
+use Rattle.codes.proofs.Coded.{code-given, code-refused, told-given, told-refused, returned}
 use Rattle.exports.proofs.write.fieldmap_build_length.Statement.{statement}
 use Rattle.exports.proofs.write.fieldmap_build_length.Tie as tie
 
