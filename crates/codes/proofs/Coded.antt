@@ -23,7 +23,7 @@ use Rattle.format.specs.declared.Entry.{Entry}
 use Rattle.format.specs.declared.Found.{Found}
 use Rattle.format.specs.declared.Found.the-variants.{Entry as found, Nothing as nothing}
 use Rattle.codes.specs.Answers.{coded, Tells, stored, lengthTold, storedFound}
-use Rattle.codes.proofs.Small.{number-listed}
+use Rattle.codes.proofs.RefusalNumbers.{number-listed}
 
 module _ {A : Type 0} (f : A → ℕ) {a : Answer A} {z : ℤ} where
   pub code-given : {x : A} → a ≡ gives x → z ≡ pos (f x) → z ≡ coded f a

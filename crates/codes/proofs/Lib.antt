@@ -1,3 +1,3 @@
 -- What the proofs of several functions use.
 pub mod Coded
-mod Small
+mod RefusalNumbers

@@ -4,7 +4,7 @@ use mathlib.Core.Path.{_∙_, ap}
 use native.Mathlib.Omega.{arith}
 use borrow.Author.Needs.{needs, sfits-of}
 use lib.IntN.{pos, negℤ}
-use Rattle.codes.proofs.Small.{number-listed, minus-fits, minus-is}
+use Rattle.codes.proofs.RefusalNumbers.{number-listed, minus-fits, minus-is}
 use Rattle.codes.proofs.refused.Statement.{statement}
 use Rattle.codes.proofs.refused.Tie as tie
 

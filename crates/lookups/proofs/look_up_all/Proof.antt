@@ -6,7 +6,7 @@ use borrow.Author.Needs.{needs}
 use Rattle.format.specs.Layout.{layout32, standard, nested}
 use Rattle.format.specs.Lookup.{lookupAt}
 use Rattle.lookups.specs.Many.{many, firstMany}
-use Rattle.lookups.proofs.Looks.{first-none, first-more, first-all, found-most}
+use Rattle.lookups.proofs.ManyLookups.{first-none, first-more, first-all, found-most}
 use Rattle.lookups.proofs.look_up_all.Statement.{statement}
 use Rattle.lookups.proofs.look_up_all.Tie as tie
 

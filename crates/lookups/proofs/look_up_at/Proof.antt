@@ -1,7 +1,7 @@
 -- `lookups::look_up_at` meets its contract. Assumes nothing.
 use mathlib.Core.Path.{_∙_, sym}
 use borrow.Author.Needs.{needs}
-use Rattle.lookups.proofs.Looks.{store-found, store-nothing}
+use Rattle.lookups.proofs.ManyLookups.{store-found, store-nothing}
 use Rattle.lookups.proofs.look_up_at.Statement.{statement}
 use Rattle.lookups.proofs.look_up_at.Tie as tie
 

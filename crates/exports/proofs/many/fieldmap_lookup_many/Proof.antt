@@ -8,7 +8,7 @@ use Rattle.fieldmap.proofs.Told.{accepted-told, refused-told, root-requires}
 use lib.ListN.{length}
 use borrow.Author.Needs.{needs}
 use Rattle.codes.proofs.Coded.{answers-given, answers-refused, returned}
-use Rattle.lookups.proofs.Looks.{found-most, many-refuses, many-values-refuses, many-none, many-values-none, many-gives, many-values-gives}
+use Rattle.lookups.proofs.ManyLookups.{found-most, many-refuses, many-values-refuses, many-none, many-values-none, many-gives, many-values-gives}
 use Rattle.exports.proofs.many.fieldmap_lookup_many.Statement.{statement}
 use Rattle.exports.proofs.many.fieldmap_lookup_many.Tie as tie
 
