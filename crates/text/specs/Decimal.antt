@@ -1,4 +1,4 @@
--- Numbers as decimal digits in ASCII. Assumes nothing: these are definitions.
+-- Numbers as decimal digits in ASCII. Document 01, "Program `fieldlist`". Assumes nothing: these are definitions.
 use Prim.Native.Nat.{ℕ, zero, suc, _+_, _/_, _%_}
 use mathlib.Core.Bool.{cond}
 use mathlib.Core.List.{List, [], _∷_, _++_}
