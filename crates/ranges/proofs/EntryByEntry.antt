@@ -1,18 +1,18 @@
 -- The fold over the entries of a range comes to the entries that match, and what of an ascending list it may pass over. Assumes nothing.
-use Prim.Native.Nat.{ℕ, suc, _+_, _≤_}
+use Prim.Native.Nat.{ℕ, suc, _+_, _≤_, _<_}
 use mathlib.Core.Path.{_≡_, refl, sym, _∙_, ap}
 use mathlib.Core.Bool.{Bool, true, false}
 use mathlib.Core.List.{List, [], _∷_, _++_}
 use native.Mathlib.Omega.{arith}
 use lib.ListN.{length}
+use lib.Dec.{leb}
+use borrow.Author.Tests.{lt-leb}
 use Rattle.format.specs.declared.Entry.{Entry}
-use Rattle.format.specs.declared.Bound.{Bound}
-use Rattle.format.specs.Certify.{Ascending}
-use Rattle.format.specs.Range.{meetsLower, meetsUpper, matches, select}
+use Rattle.format.specs.declared.Ends.the-variants.{Keys}
+use Rattle.format.specs.Certify.{Above, Ascending}
+use Rattle.format.specs.Range.{held, select}
 use Rattle.format.specs.Written.{put, walked}
 use Rattle.format.specs.Laws.Certify.Ascend.{Under, split}
-use Rattle.format.specs.Laws.Range.List.{lower-rises, under-fails, matches-none, select-past}
-use Rattle.format.specs.Laws.Check.Reach.{true≢false}
 use Rattle.format.specs.Laws.Read.Written.{runs-none, runs-cons, runs-append, all-filled}
 use Rattle.ranges.specs.Sink.{Sink, sink, taken, allTaken, rangeStep, ranged}
 
@@ -24,71 +24,80 @@ none-taken o = let z : o .matching + 0 ≡ o .matching = omega arith in rw (runs
 more-taken : (e : Entry) (es : List Entry) (o : Sink) → allTaken (e ∷ es) o ≡ allTaken es (taken e o)
 more-taken e es o = let z : o .matching + suc (length es) ≡ o .matching + 1 + length es = omega arith in rw (runs-cons put e es (o .lists), z)
 
-module _ (lo hi : Bound) where
+module _ (least greatest : ℕ) where
   -- ---- one entry
 
-  pub step-hit : (e : Entry) (o : Sink) → matches lo hi e ≡ true → rangeStep lo hi e o ≡ taken e o
+  pub step-hit : (e : Entry) (o : Sink) → held (Keys least greatest) e ≡ true → rangeStep least greatest e o ≡ taken e o
   unfolding rangeStep
   step-hit e o h = rw (h, rangeStep)
 
-  step-miss : (e : Entry) (o : Sink) → matches lo hi e ≡ false → rangeStep lo hi e o ≡ o
+  step-miss : (e : Entry) (o : Sink) → held (Keys least greatest) e ≡ false → rangeStep least greatest e o ≡ o
   unfolding rangeStep
   step-miss e o h = rw (h, rangeStep)
 
   -- ---- the closed form
 
-  runs-select : (es : List Entry) (o : Sink) → ranged lo hi es o ≡ allTaken (select (matches lo hi) es) o
-  runs-select [] o = runs-none (rangeStep lo hi) o ∙ sym (none-taken o)
-  runs-select (e ∷ es) o = by (matches lo hi e) refl (runs-select es o) (runs-select es (taken e o))
+  runs-select : (es : List Entry) (o : Sink) → ranged least greatest es o ≡ allTaken (select (held (Keys least greatest)) es) o
+  runs-select [] o = runs-none (rangeStep least greatest) o ∙ sym (none-taken o)
+  runs-select (e ∷ es) o = by (held (Keys least greatest) e) refl (runs-select es o) (runs-select es (taken e o))
     where
-      by : (b : Bool) → matches lo hi e ≡ b → ranged lo hi es o ≡ allTaken (select (matches lo hi) es) o
-          → ranged lo hi es (taken e o) ≡ allTaken (select (matches lo hi) es) (taken e o)
-          → ranged lo hi (e ∷ es) o ≡ allTaken (select (matches lo hi) (e ∷ es)) o
+      by : (b : Bool) → held (Keys least greatest) e ≡ b → ranged least greatest es o ≡ allTaken (select (held (Keys least greatest)) es) o
+          → ranged least greatest es (taken e o) ≡ allTaken (select (held (Keys least greatest)) es) (taken e o)
+          → ranged least greatest (e ∷ es) o ≡ allTaken (select (held (Keys least greatest)) (e ∷ es)) o
       by true eb miss hit =
-          runs-cons (rangeStep lo hi) e es o ∙ rw (step-hit e o eb, eb, select) (hit ∙ sym (more-taken e (select (matches lo hi) es) o))
-      by false eb miss hit = runs-cons (rangeStep lo hi) e es o ∙ rw (step-miss e o eb, eb, select) miss
+          runs-cons (rangeStep least greatest) e es o ∙ rw (step-hit e o eb, eb, select) (hit ∙ sym (more-taken e (select (held (Keys least greatest)) es) o))
+      by false eb miss hit = runs-cons (rangeStep least greatest) e es o ∙ rw (step-miss e o eb, eb, select) miss
 
   -- From the first place of both lists on.
   pub all-ranged : (es : List Entry) (ks vs : List ℕ)
-      → ranged lo hi es (sink ks vs 0 0)
-      ≡ record { lists = walked (select (matches lo hi) es) ks vs; matching = length (select (matches lo hi) es) }
+      → ranged least greatest es (sink ks vs 0 0)
+      ≡ record { lists = walked (select (held (Keys least greatest)) es) ks vs; matching = length (select (held (Keys least greatest)) es) }
   all-ranged es ks vs =
-      let z : 0 + length (select (matches lo hi) es) ≡ length (select (matches lo hi) es) = omega arith in
-      runs-select es (sink ks vs 0 0) ∙ rw (z, all-filled (select (matches lo hi) es) ks vs)
+      let z : 0 + length (select (held (Keys least greatest)) es) ≡ length (select (held (Keys least greatest)) es) = omega arith in
+      runs-select es (sink ks vs 0 0) ∙ rw (z, all-filled (select (held (Keys least greatest)) es) ks vs)
 
-  pub runs-matching : (es : List Entry) (o : Sink) → ranged lo hi es o .matching ≡ o .matching + length (select (matches lo hi) es)
+  pub runs-matching : (es : List Entry) (o : Sink) → ranged least greatest es o .matching ≡ o .matching + length (select (held (Keys least greatest)) es)
   runs-matching es o = ap (λ (u : Sink). u .matching) (runs-select es o)
 
   -- The number matching never falls.
-  pub runs-rise : (es es₀ : List Entry) (o o₀ : Sink) → ranged lo hi es o ≡ ranged lo hi es₀ o₀
-      → o .matching ≤ o₀ .matching + length (select (matches lo hi) es₀)
+  pub runs-rise : (es es₀ : List Entry) (o o₀ : Sink) → ranged least greatest es o ≡ ranged least greatest es₀ o₀
+      → o .matching ≤ o₀ .matching + length (select (held (Keys least greatest)) es₀)
   runs-rise es es₀ o o₀ e = let w = ap (λ (u : Sink). u .matching) e in omega (arith, runs-matching es o, runs-matching es₀ o₀)
 
   -- Where nothing matches, all stays.
-  none-match : (es : List Entry) (o : Sink) → select (matches lo hi) es ≡ [] → ranged lo hi es o ≡ o
+  none-match : (es : List Entry) (o : Sink) → select (held (Keys least greatest)) es ≡ [] → ranged least greatest es o ≡ o
   none-match es o h = runs-select es o ∙ rw h (none-taken o)
 
   -- ---- an ascending list that is split at e
 
-  -- Below a key that fails the lower bound nothing matches.
-  select-under : (e : Entry) → meetsLower lo e ≡ false → (l : List Entry) → Under (e .key) l → select (matches lo hi) l ≡ []
-  select-under e h [] u = refl
-  select-under e h (x ∷ l) u =
-      let f = under-fails (meetsLower lo) (lower-rises lo) e h x (u .0) in
-      rw (matches-none lo hi x (λ m. absurd (true≢false m f)), select) (select-under e h l (u .1))
+  below-least : (e : Entry) → e .key < least → held (Keys least greatest) e ≡ false
+  below-least e h = rw (lt-leb least (e .key) h)
+
+  past-greatest : (e : Entry) → greatest < e .key → held (Keys least greatest) e ≡ false
+  past-greatest e h = by (leb least (e .key)) refl
+    where
+      by : (b : Bool) → leb least (e .key) ≡ b → held (Keys least greatest) e ≡ false
+      by true m = rw m (lt-leb (e .key) greatest h)
+      by false m = rw m
+
+  select-under : (k : ℕ) → k ≤ least → (l : List Entry) → Under k l → select (held (Keys least greatest)) l ≡ []
+  select-under k h [] u = refl
+  select-under k h (x ∷ l) u = let w = u .0 in rw (below-least x (omega arith), select) (select-under k h l (u .1))
+
+  select-above : (k : ℕ) → greatest ≤ k → (l : List Entry) → Above k l → select (held (Keys least greatest)) l ≡ []
+  select-above k h [] a = refl
+  select-above k h (x ∷ l) a = let w = a .0 in rw (past-greatest x (omega arith), select) (select-above k h l (a .1))
 
   module _ (l : List Entry) (e : Entry) (r : List Entry) (o : Sink) where
-    pub pass-lower : Ascending (l ++ e ∷ r) → meetsLower lo e ≡ false → ranged lo hi (l ++ e ∷ r) o ≡ ranged lo hi r o
-    pass-lower a h =
+    pub pass-low : Ascending (l ++ e ∷ r) → e .key < least → ranged least greatest (l ++ e ∷ r) o ≡ ranged least greatest r o
+    pass-low a h =
         let s = split l e r a in
-        let m = matches-none lo hi e (λ m. absurd (true≢false m h)) in
-        runs-append (rangeStep lo hi) l (e ∷ r) o
-        ∙ rw (none-match l o (select-under e h l (s .under)), runs-cons (rangeStep lo hi) e r o, step-miss e o m)
+        runs-append (rangeStep least greatest) l (e ∷ r) o
+        ∙ rw (none-match l o (select-under (e .key) (omega arith) l (s .under)), runs-cons (rangeStep least greatest) e r o, step-miss e o (below-least e h))
 
-    pub stop-upper : Ascending (l ++ e ∷ r) → meetsUpper hi e ≡ false → ranged lo hi (l ++ e ∷ r) o ≡ ranged lo hi l o
-    stop-upper a h =
+    pub stop-past : Ascending (l ++ e ∷ r) → greatest < e .key → ranged least greatest (l ++ e ∷ r) o ≡ ranged least greatest l o
+    stop-past a h =
         let s = split l e r a in
-        let m = matches-none lo hi e (λ _. h) in
-        let u = ranged lo hi l o in
-        runs-append (rangeStep lo hi) l (e ∷ r) o ∙ runs-cons (rangeStep lo hi) e r u
-        ∙ rw (step-miss e u m) (none-match r u (select-past lo hi e h r (s .above)))
+        let u = ranged least greatest l o in
+        runs-append (rangeStep least greatest) l (e ∷ r) o ∙ runs-cons (rangeStep least greatest) e r u
+        ∙ rw (step-miss e u (past-greatest e h)) (none-match r u (select-above (e .key) (omega arith) r (s .above)))

@@ -4,8 +4,8 @@ use mathlib.Core.Bool.{true, false}
 use mathlib.Core.List.{List}
 use lib.ListN.{length}
 use Rattle.format.specs.declared.Entry.{Entry}
-use Rattle.format.specs.declared.Bound.{Bound}
-use Rattle.format.specs.Range.{matches}
+use Rattle.format.specs.declared.Ends.the-variants.{Keys}
+use Rattle.format.specs.Range.{held}
 use Rattle.format.specs.Written.{Out, out, put, runs, fill}
 
 -- Two lists with the number written, and the number matching.
@@ -24,9 +24,9 @@ taken e o = record { lists = put e (o .lists); matching = o .matching + 1 }
 abbrev pub allTaken : List Entry → Sink → Sink
 allTaken es o = record { lists = fill es (o .lists); matching = o .matching + length es }
 
-unfoldable pub rangeStep : Bound → Bound → Entry → Sink → Sink
-rangeStep lo hi e o = elim (matches lo hi e) [ true ↦ taken e o | false ↦ o ]
+unfoldable pub rangeStep : ℕ → ℕ → Entry → Sink → Sink
+rangeStep least greatest e o = elim (held (Keys least greatest) e) [ true ↦ taken e o | false ↦ o ]
 
--- What a range does with these entries, in order.
-abbrev pub ranged : Bound → Bound → List Entry → Sink → Sink
-ranged lo hi es o = runs (rangeStep lo hi) es o
+-- What a range from `least` to `greatest` does with these entries, in order.
+abbrev pub ranged : ℕ → ℕ → List Entry → Sink → Sink
+ranged least greatest es o = runs (rangeStep least greatest) es o

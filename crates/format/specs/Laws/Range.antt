@@ -1,3 +1,4 @@
 pub mod List
 pub mod Stack
 pub mod Iter
+pub mod Ends

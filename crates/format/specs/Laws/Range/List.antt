@@ -67,7 +67,7 @@ module _ (f : Entry → Bool) where
       by false eb ih = rw (eb, dropTo) ih
 
   module _ (rises : Rises f) where
-    pub under-fails : (e : Entry) → f e ≡ false → (x : Entry) → x .key < e .key → f x ≡ false
+    under-fails : (e : Entry) → f e ≡ false → (x : Entry) → x .key < e .key → f x ≡ false
     under-fails e h x l = by (f x) refl
       where
         by : (b : Bool) → f x ≡ b → f x ≡ false
@@ -97,7 +97,7 @@ module _ (lo hi : Bound) where
       by false eb = rw (eb, matches)
 
   -- Above an entry past the upper bound nothing matches.
-  pub select-past : (x : Entry) → meetsUpper hi x ≡ false → (l : List Entry) → Above (x .key) l → select (matches lo hi) l ≡ []
+  select-past : (x : Entry) → meetsUpper hi x ≡ false → (l : List Entry) → Above (x .key) l → select (matches lo hi) l ≡ []
   select-past x ex [] a = refl
   select-past x ex (y ∷ l) a = rw (matches-none y (λ m. upper-falls hi x y (a .0) ex), select) (select-past x ex l (a .1))
 

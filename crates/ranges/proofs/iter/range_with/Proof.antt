@@ -1,50 +1,47 @@
 -- `ranges::iter::range_with` meets its contract. Assumes nothing.
-use mathlib.Core.Path.{_≡_}
-use Rattle.format.specs.declared.Bound.the-variants.{Included}
+use mathlib.Core.Path.{_≡_, sym, _∙_}
+use mathlib.Core.List.{List}
+use Rattle.format.specs.declared.Entry.{Entry}
+use Rattle.format.specs.declared.Ends.{Ends}
+use Rattle.format.specs.declared.Ends.the-variants.{Nothing}
 use Rattle.format.specs.Layout.{layout32, standard, nested}
 use Rattle.format.specs.Bytes.{AllBytes}
 use Rattle.format.specs.Entries.{listAt}
-use Rattle.format.specs.Range.{matches, select}
-use Rattle.ranges.proofs.Ranges.{range-lists, range-matching, node-fits}
-use Rattle.ranges.proofs.Ends.{ends-same, none-from, none-upto, none-written}
+use Rattle.format.specs.Range.{matches, select, held}
+use Rattle.format.specs.Laws.Range.Ends.{none-held, node-ends}
+use Rattle.ranges.proofs.Ranges.{range-lists, range-matching, node-fits, none-written}
 use borrow.Author.Needs.{needs}
 use Rattle.ranges.proofs.iter.range_with.Statement.{statement}
 use Rattle.ranges.proofs.iter.range_with.Tie as tie
 
-bytes : (c : tie.After-shared-slice-known) → AllBytes (c .before .args .archive .now)
-bytes c k = c .shared-slice-known .given k .fits
+-- The entries from the root on.
+abbrev entries : tie.Start → List Entry
+entries start = listAt layout32 (start .args .archive .now) (nested standard) (start .args .root .0)
+
+-- The ends that are decided on select what the bounds select.
+same : (c : tie.After-ends-of) (ends : Ends) → c .ends-of .result ≡ ends
+    → let start : tie.Start = search in
+    select (matches (start .args .lower) (start .args .upper)) (entries start) ≡ select (held ends) (entries start)
+same c ends e =
+    let known : tie.After-shared-slice-known = search in
+    let a = known .before .args in
+    let bytes : AllBytes (a .archive .now) = λ k. known .shared-slice-known .given k .fits in
+    node-ends (a .lower) (a .upper) layout32 _ bytes _ _ ends (sym e ∙ c .ends-of .ensures)
 
 returns : tie.Need-returns
 returns c =
-    let from : tie.After-least-key = search in
-    let known : tie.After-shared-slice-known = search in
-    none-written _ _ _ (none-from _ (known .before .args .upper) _ _ (bytes known) _ _ (from .least-key .ensures) (c .enum-told .given .1))
-
-returns-2 : tie.Need-returns-2
-returns-2 c =
-    let upto : tie.After-greatest-key = search in
-    let known : tie.After-shared-slice-known = search in
-    none-written _ _ _ (none-upto (known .before .args .lower) _ _ _ (bytes known) _ _ (upto .greatest-key .ensures) (c .enum-told2 .given .1))
+    let decided : tie.After-ends-of = search in
+    let start : tie.Start = search in
+    none-written _ _ _ (same decided Nothing (c .enum-told .given .1) ∙ none-held (entries start))
 
 range-root-requires : tie.Need-range-root-requires
 range-root-requires c κs = (search, (search, search node-fits))
 
--- Both ends select what the bounds select.
-same : (c : tie.After-greatest)
-    → let first : tie.After-least = search in
-    let start : tie.Start = search in
-    let a = start .args in
-    let es = listAt layout32 (a .archive .now) (nested standard) (a .root .0) in
-    select (matches (a .lower) (a .upper)) es ≡ select (matches (Included (first .least .given .0 .0)) (Included (c .greatest .given .0 .0))) es
-same c =
-    let upto : tie.After-greatest-key = search in
-    let first : tie.After-least = search in
-    let from : tie.After-least-key = search in
-    let known : tie.After-shared-slice-known = search in
-    ends-same _ _ _ _ (bytes known) _ _ _ _ (from .least-key .ensures) (first .least .given .1) (upto .greatest-key .ensures) (c .greatest .given .1)
-
-returns-3 : tie.Need-returns-3
-returns-3 c = let last : tie.After-greatest = search in rw (same last) (search range-lists, search range-matching)
+returns-2 : tie.Need-returns-2
+returns-2 c =
+    let decided : tie.After-ends-of = search in
+    let ends : tie.After-least = search in
+    rw (same decided _ (ends .least .given .1)) (search range-lists, search range-matching)
 
 pub range-with-spec : {M : Type 1} → statement M
 range-with-spec =
@@ -54,11 +51,7 @@ range-with-spec =
     (search needs)
     (search needs)
     returns
-    (search needs)
-    (search needs)
-    (search needs)
-    returns-2
     range-root-requires
     (search needs)
     (search needs)
-    returns-3)
+    returns-2)

@@ -1,27 +1,27 @@
--- `ranges::iter::range_leaf` meets its contract. Assumes nothing.
+-- `ranges::node::range_leaf` meets its contract. Assumes nothing.
 use mathlib.Core.Path.{_≡_}
 use mathlib.Core.Bool.{true}
 use Prim.Native.Nat.{_-_, _≤_}
 use native.Mathlib.Omega.{arith}
 use lib.ListN.{length}
 use borrow.Author.Needs.{needs}
-use Rattle.format.specs.declared.Bound.the-variants.{Included}
+use Rattle.format.specs.declared.Ends.the-variants.{Keys}
 use Rattle.format.specs.Layout.{layout32}
 use Rattle.format.specs.Node.{slot}
 use Rattle.format.specs.Entries.{slots}
-use Rattle.format.specs.Range.{matches}
+use Rattle.format.specs.Range.{held}
 use Rattle.format.specs.Certify.{Ascending}
 use Rattle.ranges.specs.Sink.{sink, ranged}
 use Rattle.btree.proofs.Runs.{leaf-done}
-use Rattle.ranges.proofs.Ranges.{slot-low, slot-past, slot-matches, slots-ascend, slots-rest, leaf-pass, leaf-stop, leaf-take, leaf-fits}
-use Rattle.ranges.proofs.iter.range_leaf.Statement.{statement}
-use Rattle.ranges.proofs.iter.range_leaf.Tie as tie
+use Rattle.ranges.proofs.Ranges.{slot-low, slot-past, slot-held, slots-ascend, slots-rest, leaf-pass, leaf-stop, leaf-take, leaf-fits}
+use Rattle.ranges.proofs.node.range_leaf.Statement.{statement}
+use Rattle.ranges.proofs.node.range_leaf.Tie as tie
 
 abbrev Inv-loop : tie.InvT-loop
 Inv-loop archive pos least greatest keys₀ values₀ p n done₀ i₀ keys values done i =
     (i ≤ n) × (length keys ≡ length keys₀) × (length values ≡ length values₀) × Ascending (slots layout32 archive (pos .0) (n - i) i)
-    × (ranged (Included least) (Included greatest) (slots layout32 archive (pos .0) (n - i) i) (sink keys values (done .written) (done .matching))
-    ≡ ranged (Included least) (Included greatest) (slots layout32 archive (pos .0) (n - i₀) i₀) (sink keys₀ values₀ (done₀ .written) (done₀ .matching)))
+    × (ranged least greatest (slots layout32 archive (pos .0) (n - i) i) (sink keys values (done .written) (done .matching))
+    ≡ ranged least greatest (slots layout32 archive (pos .0) (n - i₀) i₀) (sink keys₀ values₀ (done₀ .written) (done₀ .matching)))
 
 abbrev μ-loop : tie.MeasureT-loop
 μ-loop archive pos least greatest keys₀ values₀ p n done₀ i₀ keys values done i = n - i
@@ -33,8 +33,8 @@ start head = search
 hit : (c : tie.Else2 Inv-loop μ-loop)
     → let head : tie.At-loop Inv-loop μ-loop = search in
     let a = start head .args in
-    matches (Included (a .least)) (Included (a .greatest)) (slot layout32 (a .archive .now) (a .pos .0) (head .loop .i)) ≡ true
-hit c = slot-matches layout32 _ _ _ _ (c .before .before .u64-at .ensures) _ _ (omega arith) (search)
+    held (Keys (a .least) (a .greatest)) (slot layout32 (a .archive .now) (a .pos .0) (head .loop .i)) ≡ true
+hit c = slot-held layout32 _ _ _ _ (c .before .before .u64-at .ensures) _ _ (omega arith) (search)
 
 loop-holds : tie.Need-loop-holds Inv-loop μ-loop
 loop-holds c = (search needs, search needs, search needs, search slots-ascend, search needs)

@@ -1,7 +1,7 @@
--- `ranges::iter::range_slot` meets its contract. Assumes nothing.
+-- `ranges::node::range_slot` meets its contract. Assumes nothing.
 use borrow.Author.Needs.{needs}
-use Rattle.ranges.proofs.iter.range_slot.Statement.{statement}
-use Rattle.ranges.proofs.iter.range_slot.Tie as tie
+use Rattle.ranges.proofs.node.range_slot.Statement.{statement}
+use Rattle.ranges.proofs.node.range_slot.Tie as tie
 
 returns : tie.Need-returns
 returns c = cc

@@ -1,4 +1,4 @@
--- `ranges::iter::range_inner` and `ranges::iter::range_node`, which call each other, meet their contracts: the node's position falls. Assumes nothing.
+-- `ranges::node::range_inner` and `ranges::node::range_node`, which call each other, meet their contracts: the node's position falls. Assumes nothing.
 use Prim.Native.Nat.{ℕ, _+_, _-_, _<_, _≤_}
 use mathlib.Core.Path.{_≡_, refl, ap, _∙_}
 use mathlib.Core.List.{[]}
@@ -6,34 +6,34 @@ use mathlib.Core.Bool.{true}
 use mathlib.Core.Logic.{⊎-elim, ⊎-map}
 use native.Mathlib.Omega.{arith}
 use lib.ListN.{length}
-use Rattle.format.specs.declared.Bound.the-variants.{Included}
+use Rattle.format.specs.declared.Ends.the-variants.{Keys}
 use Rattle.format.specs.Layout.{layout32, leafSize, standard}
 use Rattle.format.specs.Node.{slot}
 use Rattle.format.specs.Certify.{Ascending}
-use Rattle.format.specs.Range.{matches}
+use Rattle.format.specs.Range.{held}
 use Rattle.format.specs.Laws.Read.Node.{as-leaf, as-inner, node-room, child-falls}
 use Rattle.format.specs.Laws.Read.Written.{runs-none}
 use Rattle.ranges.specs.Sink.{sink, ranged}
 use Rattle.btree.proofs.NextChild.{next-child}
 use Rattle.btree.proofs.Runs.{leaf-run, child-run, child-skipped}
 use Rattle.ranges.proofs.Ranges.{rest, at-child, leaf-ascends, inner-ascends, rest-ascends, child-ascends, last-ascends, not-leaf}
-use Rattle.ranges.proofs.Ranges.{slot-low, slot-past, slot-matches, inner-pass, inner-stop, inner-take, inner-end}
+use Rattle.ranges.proofs.Ranges.{slot-low, slot-past, slot-held, inner-pass, inner-stop, inner-take, inner-end}
 use Rattle.ranges.proofs.Ranges.{whole-leaf-fits, child-fits, last-fits, slot-fits}
 use borrow.Author.Needs.{needs}
 use borrow.Fn.Kinds.{In, Out}
 use borrow.Fn.PlainCycle.{Measures, is, falls, and}
-use Rattle.ranges.proofs.iter.range_inner.Reads as range-inner
-use Rattle.ranges.proofs.iter.range_inner.Kinds as inner-kinds
-use Rattle.ranges.proofs.iter.+range_inner+range_node.Lts-range_inner as inner-lts
-use Rattle.ranges.proofs.iter.range_node.Reads as range-node
-use Rattle.ranges.proofs.iter.range_node.Kinds as node-kinds
-use Rattle.ranges.proofs.iter.+range_inner+range_node.Lts-range_node as node-lts
+use Rattle.ranges.proofs.node.range_inner.Reads as range-inner
+use Rattle.ranges.proofs.node.range_inner.Kinds as inner-kinds
+use Rattle.ranges.proofs.node.+range_inner+range_node.Lts-range_inner as inner-lts
+use Rattle.ranges.proofs.node.range_node.Reads as range-node
+use Rattle.ranges.proofs.node.range_node.Kinds as node-kinds
+use Rattle.ranges.proofs.node.+range_inner+range_node.Lts-range_node as node-lts
 use Rattle.btree.proofs.node.child_at.Reads as child-at
 use Rattle.fields.proofs.primitive.u64_at.Reads as u64-at
-use Rattle.ranges.proofs.iter.range_leaf.Reads as range-leaf
-use Rattle.ranges.proofs.iter.range_slot.Reads as range-slot
-use Rattle.ranges.proofs.iter.+range_inner+range_node.{statement}
-use Rattle.ranges.proofs.iter.+range_inner+range_node.Tie.{close}
+use Rattle.ranges.proofs.node.range_leaf.Reads as range-leaf
+use Rattle.ranges.proofs.node.range_slot.Reads as range-slot
+use Rattle.ranges.proofs.node.+range_inner+range_node.{statement}
+use Rattle.ranges.proofs.node.+range_inner+range_node.Tie.{close}
 
 abbrev μ-inner : Measures 3 inner-kinds.ps ℕ
 μ-inner κs a = a .1 .0 .0 + a .1 .0 .0
@@ -61,8 +61,8 @@ abbrev Inv-loop : inner-lts.InvT-loop
 Inv-loop archive pos least greatest keys₀ values₀ p done₀ i₀ keys values done i =
     (i ≤ 5) × (pos .0 + leafSize layout32 ≤ length archive) × (length keys ≡ length keys₀) × (length values ≡ length values₀)
     × Ascending (rest layout32 archive standard (pos .0) i)
-    × (ranged (Included least) (Included greatest) (rest layout32 archive standard (pos .0) i) (sink keys values (done .written) (done .matching))
-    ≡ ranged (Included least) (Included greatest) (rest layout32 archive standard (pos .0) i₀) (sink keys₀ values₀ (done₀ .written) (done₀ .matching)))
+    × (ranged least greatest (rest layout32 archive standard (pos .0) i) (sink keys values (done .written) (done .matching))
+    ≡ ranged least greatest (rest layout32 archive standard (pos .0) i₀) (sink keys₀ values₀ (done₀ .written) (done₀ .matching)))
 
 abbrev μ-loop : inner-lts.MeasureT-loop
 μ-loop archive pos least greatest keys₀ values₀ p done₀ i₀ keys values done i = 5 - i
@@ -91,7 +91,7 @@ module _ (t : ℕ) (c : In-inner t inner-lts.At-match-came) where
 
   joined : let a = start t (c .before) .args in let o = head t (c .before) .loop in
       sink (c .match .keys) (c .match .values) (c .match .done .written) (c .match .done .matching)
-      ≡ ranged (Included (a .least)) (Included (a .greatest)) (at-child layout32 (a .archive .now) standard (a .pos .0) (o .i))
+      ≡ ranged (a .least) (a .greatest) (at-child layout32 (a .archive .now) standard (a .pos .0) (o .i))
       (sink (o .keys) (o .values) (o .done .written) (o .done .matching))
   joined =
       next-child layout32 _ (ranged _ _) [] (runs-none _) _ _ _ _ _ _ (c .before .child-at .ensures)
@@ -100,10 +100,10 @@ module _ (t : ℕ) (c : In-inner t inner-lts.At-match-came) where
 -- Past both tests the slot matches.
 hit : (t : ℕ) (c : In-inner t inner-lts.Else2)
     → let a = start t (c .before .before) .args in
-    matches (Included (a .least)) (Included (a .greatest)) (slot layout32 (a .archive .now) (a .pos .0) (head t (c .before .before) .loop .i)) ≡ true
+    held (Keys (a .least) (a .greatest)) (slot layout32 (a .archive .now) (a .pos .0) (head t (c .before .before) .loop .i)) ≡ true
 hit t c =
     let read : In-inner t inner-lts.After-u64-at = search in
-    slot-matches layout32 _ _ _ _ (read .u64-at .ensures) _ _ (search) (search)
+    slot-held layout32 _ _ _ _ (read .u64-at .ensures) _ _ (search) (search)
 
 inner-loop-holds : (t : ℕ) → In-inner t inner-lts.Need-loop-holds
 inner-loop-holds t c = (omega arith, search node-room, refl, refl, search inner-ascends, refl)

@@ -1,12 +1,12 @@
--- `ranges::iter::range_root` meets its contract. Assumes nothing.
+-- `ranges::node::range_root` meets its contract. Assumes nothing.
 use native.Mathlib.Omega.{arith}
 use borrow.Author.Needs.{needs}
 use Rattle.format.specs.Layout.{layout32, standard}
 use Rattle.format.specs.Laws.Read.Node.{as-leaf, as-inner, node-room}
 use Rattle.btree.proofs.Runs.{leaf-run}
 use Rattle.ranges.proofs.Ranges.{leaf-ascends, whole-leaf-fits}
-use Rattle.ranges.proofs.iter.range_root.Statement.{statement}
-use Rattle.ranges.proofs.iter.range_root.Tie as tie
+use Rattle.ranges.proofs.node.range_root.Statement.{statement}
+use Rattle.ranges.proofs.node.range_root.Tie as tie
 
 shared-slice-read-if1 : tie.Need-shared-slice-read-if1
 shared-slice-read-if1 c = let start : tie.Start = search in omega (arith, node-room layout32 standard _ (start .pre .0))
