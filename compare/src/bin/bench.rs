@@ -9,8 +9,8 @@
 //!   hollow nodes.
 //! - `check and walk`: each checks and writes all keys and values to two lists.
 //! - `check and 1,000 lookups`: each checks once and looks up 1,000 keys, of which three quarters are there.
-//! - `certify and range of 100`: the proved range certifies and writes the 100 entries in the middle, or all of them where there are fewer.
-//!   rkyv checks, compares all keys as under `certify`, and writes what its range iterator gives.
+//! - `certify and range of 1`, `of 100` and of all: the proved range certifies and writes so many entries from the middle. rkyv checks, compares
+//!   all keys as under `certify`, and writes what its range iterator gives.
 //! - `the same, rkyv not certifying`: the proved range again, beside rkyv's check and range without a look at the order of the keys.
 //! - `build`: the proved build makes sure that the keys ascend, rkyv leaves that to its caller. Both write to memory that they have already,
 //!   behind no header; rkyv also uses working memory, kept from call to call.
@@ -32,9 +32,10 @@ use rkyv::util::AlignedVec;
 /// Repetitions of a measurement, and the least time of one, in which the call is made as often as needed.
 const REPETITIONS: usize = 1_000;
 const LEAST: Duration = Duration::from_micros(100);
-/// Keys looked up in one go, and the most entries in a range.
+/// Keys looked up in one go, and the entries in a narrow range and in a wider one.
 const LOOKUPS: usize = 1_000;
-const RANGE: usize = 100;
+const NARROW: usize = 1;
+const WIDER: usize = 100;
 
 /// What a call writes to.
 struct Lent {
@@ -75,12 +76,6 @@ fn measure(entries: usize) {
     let sought: Vec<u64> = (0..LOOKUPS)
         .map(|_| random.pick(&keys) + u64::from(random.one_in(4)))
         .collect();
-    let count = entries.min(RANGE);
-    let first = (entries - count) / 2;
-    let bounds = (
-        Bound::Included(keys[first]),
-        Bound::Included(keys[first + count - 1]),
-    );
 
     let row = |call: &str, (ours, rkyv): (Option<f64>, f64)| {
         let ratio = ours.map_or("-".into(), |ours| format!("{:.2}", ours / rkyv));
@@ -127,18 +122,7 @@ fn measure(entries: usize) {
             |lent| look_up(accepted(archive).map(), &sought, lent),
         ),
     );
-    row(
-        &format!("certify and range of {count}"),
-        best(RANGE, proved!(ranging(archive, bounds)), |lent| {
-            range(certified(archive).map(), bounds, lent)
-        }),
-    );
-    row(
-        "the same, rkyv not certifying",
-        best(RANGE, proved!(ranging(archive, bounds)), |lent| {
-            range(accepted(archive).map(), bounds, lent)
-        }),
-    );
+    measure_ranges(archive, &keys, row);
     let (mut output, mut arena) = (AlignedVec::new(), Arena::new());
     row(
         "build",
@@ -152,6 +136,32 @@ fn measure(entries: usize) {
             },
         ),
     );
+}
+
+/// The rows of ranges over the middle of the keys: one entry, more, and all.
+fn measure_ranges(archive: &Archive, keys: &[u64], row: impl Fn(&str, (Option<f64>, f64))) {
+    let entries = keys.len();
+    let mut counts = vec![NARROW, WIDER.min(entries), entries];
+    counts.dedup();
+    for count in counts {
+        let first = (entries - count) / 2;
+        let bounds = (
+            Bound::Included(keys[first]),
+            Bound::Included(keys[first + count - 1]),
+        );
+        row(
+            &format!("certify and range of {count}"),
+            best(count, proved!(ranging(archive, bounds)), |lent| {
+                range(certified(archive).map(), bounds, lent)
+            }),
+        );
+        row(
+            "the same, rkyv not certifying",
+            best(count, proved!(ranging(archive, bounds)), |lent| {
+                range(accepted(archive).map(), bounds, lent)
+            }),
+        );
+    }
 }
 
 /// The proved range.
