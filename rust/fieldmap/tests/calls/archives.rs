@@ -1,6 +1,7 @@
 //! Reading what was built, and what is accepted or certified.
 
-use std::ops::Bound::{Excluded, Included, Unbounded};
+use std::ops::Bound::{self, Excluded, Included, Unbounded};
+use std::ops::RangeBounds;
 
 use crate::by_hand::{root_leaf, Output};
 use crate::given::{built, BEFORE};
@@ -51,6 +52,31 @@ fn ranges() {
     assert_eq!(answer, Ok(matched));
     assert_eq!(keys, [10, 11, BEFORE, BEFORE]);
     assert_eq!(values, [100, 110]);
+}
+
+/// Each pair of bounds at the least and the largest keys matches the keys that the standard library says it contains.
+#[test]
+fn ranges_at_the_least_and_the_largest_keys() {
+    let most = u64::MAX;
+    let ends = [0, 1, 2, 3, most - 3, most - 2, most - 1, most];
+    let mut out = [0; 400];
+    let end = fieldmap::build(&mut out, 0, &ends, &ends).unwrap();
+    let kinds = |&key: &u64| [Included(key), Excluded(key)];
+    let mut bounds: Vec<Bound<u64>> = ends.iter().flat_map(kinds).collect();
+    bounds.push(Unbounded);
+    for &lower in &bounds {
+        for &upper in &bounds {
+            let both = (lower, upper);
+            let contained: Vec<u64> = ends.into_iter().filter(|key| both.contains(key)).collect();
+            let (mut keys, mut values) = ([BEFORE; 8], [BEFORE; 8]);
+            let answer = fieldmap::range(&out[..end], both, &mut keys, &mut values).unwrap();
+            assert_eq!(
+                (answer.written, answer.matching),
+                (contained.len(), contained.len())
+            );
+            assert_eq!(keys[..answer.written], contained, "{both:?}");
+        }
+    }
 }
 
 #[test]
