@@ -14,7 +14,7 @@ ghost use Rattle.format.specs.Range.{matches, select, endsOf};
 ghost use Rattle.format.specs.Readable.{Node};
 ghost use Rattle.format.specs.Written.{out, walked};
 
-// The keys that meet both bounds, as numbers.
+// The keys that meet both bounds, as numbers. None is below an excluded 0; none is above an excluded largest key, which `greatest` never exceeds.
 fn ends_of(lower: Bound, upper: Bound) -> Ends
     ensures { λ r. ⌜ r ≡ endsOf lower upper ⌝ }
 {
@@ -30,17 +30,19 @@ fn ends_of(lower: Bound, upper: Bound) -> Ends
     };
     let least = match lower {
         Bound::Unbounded => 0,
-        Bound::Included(lb) => lb,
+        Bound::Included(lb) => {
+            if greatest < lb {
+                return Ends::Nothing;
+            }
+            lb
+        }
         Bound::Excluded(lb) => {
-            if lb == 0xffff_ffff_ffff_ffff {
+            if greatest <= lb {
                 return Ends::Nothing;
             }
             lb + 1
         }
     };
-    if greatest < least {
-        return Ends::Nothing;
-    }
     Ends::Keys { least, greatest }
 }
 
