@@ -9,10 +9,11 @@ use lib.Dec.{leb}
 use borrow.Author.Tests.{lt-leb}
 use Rattle.format.specs.declared.Entry.{Entry}
 use Rattle.format.specs.declared.Ends.the-variants.{Keys}
-use Rattle.format.specs.Certify.{Above, Ascending}
+use Rattle.format.specs.Certify.{Ascending}
 use Rattle.format.specs.Range.{held, select}
 use Rattle.format.specs.Written.{put, walked}
-use Rattle.format.specs.Laws.Certify.Ascend.{Under, split}
+use Rattle.format.specs.Laws.Certify.Ascend.{split}
+use Rattle.format.specs.Laws.Range.List.{select-under, select-above}
 use Rattle.format.specs.Laws.Read.Written.{runs-none, runs-cons, runs-append, all-filled}
 use Rattle.ranges.specs.Sink.{Sink, sink, taken, allTaken, rangeStep, ranged}
 
@@ -80,24 +81,16 @@ module _ (least greatest : ℕ) where
       by true m = rw m (lt-leb (e .key) greatest h)
       by false m = rw m
 
-  select-under : (k : ℕ) → k ≤ least → (l : List Entry) → Under k l → select (held (Keys least greatest)) l ≡ []
-  select-under k h [] u = refl
-  select-under k h (x ∷ l) u = let w = u .0 in rw (below-least x (omega arith), select) (select-under k h l (u .1))
-
-  select-above : (k : ℕ) → greatest ≤ k → (l : List Entry) → Above k l → select (held (Keys least greatest)) l ≡ []
-  select-above k h [] a = refl
-  select-above k h (x ∷ l) a = let w = a .0 in rw (past-greatest x (omega arith), select) (select-above k h l (a .1))
-
   module _ (l : List Entry) (e : Entry) (r : List Entry) (o : Sink) where
     pub pass-low : Ascending (l ++ e ∷ r) → e .key < least → ranged least greatest (l ++ e ∷ r) o ≡ ranged least greatest r o
     pass-low a h =
-        let s = split l e r a in
+        let none = select-under _ (e .key) (λ x u. below-least x (omega arith)) l (split l e r a .under) in
         runs-append (rangeStep least greatest) l (e ∷ r) o
-        ∙ rw (none-match l o (select-under (e .key) (omega arith) l (s .under)), runs-cons (rangeStep least greatest) e r o, step-miss e o (below-least e h))
+        ∙ rw (none-match l o none, runs-cons (rangeStep least greatest) e r o, step-miss e o (below-least e h))
 
     pub stop-past : Ascending (l ++ e ∷ r) → greatest < e .key → ranged least greatest (l ++ e ∷ r) o ≡ ranged least greatest l o
     stop-past a h =
-        let s = split l e r a in
+        let none = select-above _ (e .key) (λ x u. past-greatest x (omega arith)) r (split l e r a .above) in
         let u = ranged least greatest l o in
         runs-append (rangeStep least greatest) l (e ∷ r) o ∙ runs-cons (rangeStep least greatest) e r u
-        ∙ rw (step-miss e u (past-greatest e h)) (none-match r u (select-above (e .key) (omega arith) r (s .above)))
+        ∙ rw (step-miss e u (past-greatest e h)) (none-match r u none)

@@ -1,6 +1,6 @@
 -- Ranges of an ascending list: the entries that match are those from the first that meets the lower bound on, before the first past the upper
 -- bound. Assumes nothing.
-use Prim.Native.Nat.{_<_, _≤_}
+use Prim.Native.Nat.{ℕ, _<_, _≤_}
 use mathlib.Core.Path.{_≡_, refl, ap}
 use mathlib.Core.Bool.{Bool, true, false, not}
 use mathlib.Core.List.{List, [], _∷_, _++_}
@@ -88,6 +88,16 @@ module _ (f : Entry → Bool) where
       by true eb ih = rw (eb, dropTo) a
       by false eb ih = rw (eb, dropTo) ih
 
+-- A list whose keys are all below k, or all above it, has nothing that passes a test which no such key passes.
+module _ (f : Entry → Bool) (k : ℕ) where
+  pub select-under : ((x : Entry) → x .key < k → f x ≡ false) → (l : List Entry) → Under k l → select f l ≡ []
+  select-under h [] u = refl
+  select-under h (x ∷ l) u = rw (h x (u .0), select) (select-under h l (u .1))
+
+  pub select-above : ((x : Entry) → k < x .key → f x ≡ false) → (l : List Entry) → Above k l → select f l ≡ []
+  select-above h [] a = refl
+  select-above h (x ∷ l) a = rw (h x (a .0), select) (select-above h l (a .1))
+
 module _ (lo hi : Bound) where
   pub matches-none : (e : Entry) → (meetsLower lo e ≡ true → meetsUpper hi e ≡ false) → matches lo hi e ≡ false
   matches-none e k = by (meetsLower lo e) refl
@@ -98,8 +108,7 @@ module _ (lo hi : Bound) where
 
   -- Above an entry past the upper bound nothing matches.
   select-past : (x : Entry) → meetsUpper hi x ≡ false → (l : List Entry) → Above (x .key) l → select (matches lo hi) l ≡ []
-  select-past x ex [] a = refl
-  select-past x ex (y ∷ l) a = rw (matches-none y (λ m. upper-falls hi x y (a .0) ex), select) (select-past x ex l (a .1))
+  select-past x ex = select-above (matches lo hi) (x .key) (λ y h. matches-none y (λ m. upper-falls hi x y h ex))
 
   select-one : (x : Entry) (xs : List Entry) → meetsLower lo x ≡ true → Above (x .key) xs → select (matches lo hi) xs ≡ takeTo (meetsUpper hi) xs
       → select (matches lo hi) (x ∷ xs) ≡ takeTo (meetsUpper hi) (x ∷ xs)
