@@ -25,9 +25,9 @@ extern "C" {
 
 /* The version of these declarations. */
 #define FIELDMAP_VERSION_MAJOR 0
-#define FIELDMAP_VERSION_MINOR 2
+#define FIELDMAP_VERSION_MINOR 3
 #define FIELDMAP_VERSION_PATCH 0
-#define FIELDMAP_VERSION "0.2.0"
+#define FIELDMAP_VERSION "0.3.0"
 
 /* The limits. */
 #define FIELDMAP_LONGEST_ARCHIVE 1048576 /* bytes of an archive */
@@ -70,6 +70,12 @@ enum {
     FIELDMAP_INCLUDED = 0,
     FIELDMAP_EXCLUDED = 1,
     FIELDMAP_UNBOUNDED = 2 /* any other number means the same; the key is not read */
+};
+
+/* The packings: how x and y stand in their eight bits of a key. Neither a key nor an archive says which it is, so the caller names it. */
+enum {
+    FIELDMAP_TWOS_COMPLEMENT = 0, /* in two's complement: old archives */
+    FIELDMAP_PLUS_128 = 1         /* the degrees plus 128: new examinations; any other number means the same */
 };
 
 /* What a negative answer says, in English. */
@@ -148,16 +154,21 @@ FIELDMAP_MUST_USE int64_t fieldmap_range(
     uint64_t *keys, size_t keys_len, uint64_t *values, size_t values_len, uint64_t *matching);
 
 /*
- * The range of a column query, for one eye of one examination. Keys are ordered by the bits of x, in which -128 to -1 come after 0 to 127:
+ * The range of a column query, for one eye of one examination, in an archive whose keys are of the named packing. Keys are ordered by the bits
+ * of x: plus 128 they are in the order of the numbers, in two's complement -128 to -1 come after 0 to 127.
  *
- *   a and b both from 0 on, or both below 0    the points with x from a to b, both included
- *   a below 0, b from 0 on                     nothing; ask from a to -1 and from 0 to b
- *   a from 0 on, b below 0                     the points with x from a on and those with x up to b
+ *   FIELDMAP_PLUS_128
+ *     a up to b                                  the points with x from a to b, both included
+ *     a above b                                  nothing
+ *   FIELDMAP_TWOS_COMPLEMENT
+ *     a and b both from 0 on, or both below 0    the points with x from a to b, both included
+ *     a below 0, b from 0 on                     nothing; ask from a to -1 and from 0 to b
+ *     a from 0 on, b below 0                     the points with x from a on and those with x up to b
  *
- * 18 comes after 1 to 9.
+ * 18, where the examination or the eye does not fit its field, comes after 1 to 9.
  */
 FIELDMAP_MUST_USE int64_t fieldmap_column(
-    const uint8_t *archive, size_t archive_len, uint32_t examination, uint8_t eye, int8_t a, int8_t b,
+    const uint8_t *archive, size_t archive_len, uint8_t packing, uint32_t examination, uint8_t eye, int8_t a, int8_t b,
     uint64_t *keys, size_t keys_len, uint64_t *values, size_t values_len, uint64_t *matching);
 
 /*
@@ -185,13 +196,15 @@ FIELDMAP_MUST_USE int64_t fieldmap_absent_offset(uint64_t at, int32_t *offset);
 FIELDMAP_MUST_USE int64_t fieldmap_align(uint64_t pos, uint64_t alignment, uint64_t *next, uint64_t *zeros);
 
 /*
- * The key of an examination's fields, stored where the answer is 0, or 18. The examination has 24 bits, the eye is 0 for the right one and 1
- * for the left, x and y are in degrees, the presentation has 23 bits.
+ * The key of an examination's fields by the named packing, stored where the answer is 0, or 18. The examination has 24 bits, the eye is 0 for
+ * the right one and 1 for the left, x and y are in degrees, the presentation has 23 bits.
  */
-FIELDMAP_MUST_USE int64_t fieldmap_pack(uint32_t examination, uint8_t eye, int8_t x, int8_t y, uint32_t presentation, uint64_t *key);
+FIELDMAP_MUST_USE int64_t fieldmap_pack(
+    uint8_t packing, uint32_t examination, uint8_t eye, int8_t x, int8_t y, uint32_t presentation, uint64_t *key);
 
-/* Stores the fields of a key. Every key has them: the answer is always 0. */
-int64_t fieldmap_unpack(uint64_t key, uint32_t *examination, uint8_t *eye, int8_t *x, int8_t *y, uint32_t *presentation);
+/* Stores the fields of a key, read by the named packing. Every key has them by each packing: the answer is always 0. */
+int64_t fieldmap_unpack(
+    uint64_t key, uint8_t packing, uint32_t *examination, uint8_t *eye, int8_t *x, int8_t *y, uint32_t *presentation);
 
 /* Whether the stimulus of a value was seen: 1 or 0. It is the value's highest bit. */
 FIELDMAP_MUST_USE int64_t fieldmap_seen(uint64_t value);

@@ -1,5 +1,5 @@
-"""mixed.py NAME writes an archive of one leaf, NAME.fieldmap, with both eyes and the ends of every field, and NAME.txt, the text that `fieldlist`
-prints of it."""
+"""mixed.py NAME PACKING writes an archive of one leaf, NAME.fieldmap, with both eyes and the ends of every field, and NAME.txt, the text that
+`fieldlist` prints of it. PACKING is how x and y stand in the keys, twos-complement or plus-128; the points have the same order by both."""
 import struct
 import sys
 
@@ -13,8 +13,11 @@ POINTS = [
 ]
 
 
+added = {"twos-complement": 0, "plus-128": 128}[sys.argv[2]]
+
+
 def entry(examination, eye, x, y, presentation, seen, threshold, rest):
-    key = examination << 40 | eye << 39 | (x & 255) << 31 | (y & 255) << 23 | presentation
+    key = examination << 40 | eye << 39 | (x + added & 255) << 31 | (y + added & 255) << 23 | presentation
     return key, seen << 63 | threshold << 53 | rest
 
 

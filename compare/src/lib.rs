@@ -2,6 +2,7 @@
 
 pub mod by_hand;
 pub mod cases;
+pub mod columns;
 pub mod counts;
 #[cfg(feature = "ours")]
 pub mod lender;

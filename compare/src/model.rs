@@ -1,10 +1,14 @@
 //! Document 01's text without rkyv: the check, the list of an accepted archive, certification and ranges, read off the bytes; what refuses
-//! a build and an alignment step; key packing and column queries.
+//! a build and an alignment step; key packing and column queries, also by document 02's second packing.
 //!
 //! rkyv has no counterpart to refusals 1, 8 to 14, 17 and 18 nor to key packing, and answers crossed ranges otherwise; there this module is
 //! the reference. Where rkyv has one, the program `compare` holds this module to it.
 
-use std::ops::Bound;
+mod keys;
+mod ranges;
+
+pub use keys::{pack, seen, threshold, unpack, KeyFields, Packing, PACKINGS};
+pub use ranges::{column, crosses, in_column, range, Column};
 
 /// Refusal 1: "N is above 1,048,576."
 pub const LONGEST: usize = 1_048_576;
@@ -258,33 +262,6 @@ pub fn certify(bytes: &[u8]) -> Result<u32, u8> {
     fault(bytes).map_or(Ok(count), Err)
 }
 
-/// "they cross if the lower is above the upper, or both are equal and excluded"
-pub fn crosses(lower: Bound<u64>, upper: Bound<u64>) -> bool {
-    use Bound::{Excluded, Included};
-    match (lower, upper) {
-        (Excluded(lower), Excluded(upper)) => lower >= upper,
-        (Included(lower) | Excluded(lower), Included(upper) | Excluded(upper)) => lower > upper,
-        _ => false,
-    }
-}
-
-/// The entries of an accepted archive that meet both bounds, in order.
-pub fn range(bytes: &[u8], lower: Bound<u64>, upper: Bound<u64>) -> Vec<Entry> {
-    let meets_lower = |key: u64| match lower {
-        Bound::Included(bound) => key >= bound,
-        Bound::Excluded(bound) => key > bound,
-        Bound::Unbounded => true,
-    };
-    let meets_upper = |key: u64| match upper {
-        Bound::Included(bound) => key <= bound,
-        Bound::Excluded(bound) => key < bound,
-        Bound::Unbounded => true,
-    };
-    let mut entries = list(bytes);
-    entries.retain(|entry| meets_lower(entry.key) && meets_upper(entry.key));
-    entries
-}
-
 /// What stands before a build of these lists, behind a header of this length, and in an output of this length, which the archive and what
 /// is before it fill up to `end`: 10 to 14, the first of them, or nothing.
 pub fn build_fault(
@@ -313,69 +290,4 @@ pub fn build_fault(
 pub fn aligns(position: u64, alignment: u64) -> bool {
     matches!(alignment, 1 | 2 | 4 | 8 | 16 | 32)
         && position.checked_next_multiple_of(alignment).is_some()
-}
-
-/// The fields of a key.
-pub struct KeyFields {
-    pub examination: u32,
-    pub eye: u8,
-    pub x: i8,
-    pub y: i8,
-    pub presentation: u32,
-}
-
-/// "most significant first: examination 24 bits, eye 1, x 8 and y 8 in two's complement degrees, presentation 23", or 18.
-pub fn pack(fields: &KeyFields) -> Result<u64, u8> {
-    if fields.examination >= 1 << 24 || fields.eye > 1 || fields.presentation >= 1 << 23 {
-        return Err(18);
-    }
-    let key = u64::from(fields.examination) << 1 | u64::from(fields.eye);
-    let key = key << 8 | u64::from(fields.x as u8);
-    let key = key << 8 | u64::from(fields.y as u8);
-    Ok(key << 23 | u64::from(fields.presentation))
-}
-
-pub fn unpack(key: u64) -> KeyFields {
-    KeyFields {
-        examination: (key >> 40) as u32,
-        eye: (key >> 39 & 1) as u8,
-        x: (key >> 31) as i8,
-        y: (key >> 23) as i8,
-        presentation: (key & 0x7f_ffff) as u32,
-    }
-}
-
-/// A column query: "takes x from a to b".
-#[derive(Clone, Copy)]
-pub struct Column {
-    pub examination: u32,
-    pub eye: u8,
-    pub a: i8,
-    pub b: i8,
-}
-
-/// "the range of keys from (a, y bits zero, presentation 0) to (b, y bits all ones, largest presentation), both included", or 18.
-pub fn column(column: Column) -> Result<(Bound<u64>, Bound<u64>), u8> {
-    let bound = |x, y, presentation| {
-        let (examination, eye) = (column.examination, column.eye);
-        pack(&KeyFields {
-            examination,
-            eye,
-            x,
-            y,
-            presentation,
-        })
-    };
-    let lower = bound(column.a, 0, 0)?;
-    let upper = bound(column.b, -1, (1 << 23) - 1)?;
-    Ok((Bound::Included(lower), Bound::Included(upper)))
-}
-
-/// "In a value the top bit is 1 for seen, the next 10 bits are the threshold in tenths of a decibel".
-pub fn seen(value: u64) -> bool {
-    value >> 63 == 1
-}
-
-pub fn threshold(value: u64) -> u64 {
-    (value >> 53) & 0x3ff
 }

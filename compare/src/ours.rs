@@ -1,10 +1,10 @@
 //! The proved code: the calls of the static library, through the crate `fieldmap`. A refusal is its number.
 
-use std::ops::{Bound, RangeInclusive};
+use std::ops::Bound;
 
 use fieldmap::Refusal;
 
-use crate::model::KeyFields;
+use crate::model::{Column, KeyFields, Packing};
 use crate::rkyv_map::Found;
 
 /// An answer with numbers as the comparison has them.
@@ -74,15 +74,30 @@ pub fn range(
 /// The same for a column query.
 pub fn column(
     archive: &[u8],
-    examination: u32,
-    eye: u8,
-    x: RangeInclusive<i8>,
+    column: Column,
     keys: &mut [u64],
     values: &mut [u64],
 ) -> Result<(u32, u64), u8> {
-    fieldmap::column(archive, examination, eye, x, keys, values)
-        .map(|matched| (matched.written as u32, matched.matching as u64))
-        .map_err(Refusal::number)
+    let packing = packing(column.packing);
+    let x = column.a..=column.b;
+    fieldmap::column(
+        archive,
+        packing,
+        column.examination,
+        column.eye,
+        x,
+        keys,
+        values,
+    )
+    .map(|matched| (matched.written as u32, matched.matching as u64))
+    .map_err(Refusal::number)
+}
+
+fn packing(packing: Packing) -> fieldmap::Packing {
+    match packing {
+        Packing::TwosComplement => fieldmap::Packing::TwosComplement,
+        Packing::Plus128 => fieldmap::Packing::Plus128,
+    }
 }
 
 /// The archive's end in the output, behind a header of so many bytes that stay, or the refusal.
@@ -113,7 +128,7 @@ pub fn align(position: u64, alignment: u64) -> Result<(u64, u64), u8> {
 }
 
 /// A key, or the refusal.
-pub fn pack(fields: &KeyFields) -> Result<u64, u8> {
+pub fn pack(by: Packing, fields: &KeyFields) -> Result<u64, u8> {
     let key = fieldmap::Key {
         examination: fields.examination,
         eye: fields.eye,
@@ -121,7 +136,19 @@ pub fn pack(fields: &KeyFields) -> Result<u64, u8> {
         y: fields.y,
         presentation: fields.presentation,
     };
-    key.pack().map_err(Refusal::number)
+    key.pack(packing(by)).map_err(Refusal::number)
+}
+
+/// The fields of a key.
+pub fn unpack(by: Packing, key: u64) -> KeyFields {
+    let key = fieldmap::Key::unpack(key, packing(by));
+    KeyFields {
+        examination: key.examination,
+        eye: key.eye,
+        x: key.x,
+        y: key.y,
+        presentation: key.presentation,
+    }
 }
 
 /// Whether the stimulus of a value was seen.

@@ -1,6 +1,9 @@
 //! The readers' answers about one archive: rkyv's against the model's, which is document 01's text, and, with the feature `ours`, the proved
 //! code's against both.
 
+#[cfg(feature = "ours")]
+mod proved;
+
 use std::fmt::Debug;
 use std::ops::Bound;
 
@@ -51,7 +54,7 @@ pub fn compare(
         let before = bytes.to_vec();
         proved::compare(bytes, &checked, &entries, &sought, random)?;
         proved::compare_ranges(bytes, &checked, &ranges, random)?;
-        proved::compare_columns(bytes, &checked, &sought, random)?;
+        proved::compare_columns(bytes, &checked, &entries, &sought, random)?;
         same("archive", ("before", &before[..]), ("after", bytes))?;
     }
     Ok(())
@@ -130,169 +133,4 @@ fn same<T: Debug + PartialEq>(what: &str, one: (&str, T), other: (&str, T)) -> R
     let (one, first) = one;
     let (other, second) = other;
     Err(format!("{what}: {one} {first:?}, {other} {second:?}"))
-}
-
-/// The proved code's answers against rkyv's, and against the model's where rkyv has none.
-#[cfg(feature = "ours")]
-mod proved {
-    use std::ops::Bound;
-
-    use crate::rkyv_map::Accepted;
-    use crate::trees::Random;
-    use crate::{model, ours};
-
-    use super::{count, matching, same, Bounds};
-
-    /// What a place of a lent list holds before a call.
-    const BEFORE: u64 = 0x5555_5555_5555_5555;
-
-    pub fn compare(
-        bytes: &[u8],
-        checked: &Result<Accepted, u8>,
-        entries: &[(u64, u64)],
-        sought: &[u64],
-        random: &mut Random,
-    ) -> Result<(), String> {
-        let count = count(checked);
-        let certified = model::certify(bytes);
-        same("check", ("rkyv", count), ("ours", ours::check(bytes)))?;
-        same(
-            "certify",
-            ("model", certified),
-            ("ours", ours::certify(bytes)),
-        )?;
-
-        let (mut keys, mut values) = lent(entries, random);
-        let (written, after) = written(entries, &keys, &values);
-        let answer = ours::walk(bytes, &mut keys, &mut values);
-        same(
-            "walk",
-            ("rkyv", (count.map(|count| (written, count)), after)),
-            ("ours", (answer, (keys, values))),
-        )?;
-
-        let mut found = Vec::new();
-        for &key in sought {
-            let entry = match checked {
-                Ok(accepted) => Ok(accepted.get(key)),
-                Err(number) => Err(*number),
-            };
-            let what = format!("lookup of {key}");
-            same(&what, ("rkyv", entry), ("ours", ours::lookup(bytes, key)))?;
-            let part = |(_, _, position)| &bytes[position..][..8];
-            let part = entry.map(|entry| entry.map_or(&bytes[..0], part));
-            let what = format!("the bytes of {key}");
-            let answer = ours::lookup_bytes(bytes, key);
-            same(&what, ("rkyv", part), ("ours", answer))?;
-            let entry = entry.ok().flatten();
-            found.push(entry.map_or(BEFORE, |entry| entry.1));
-        }
-
-        // As many places as keys, or fewer, or more: a key without a place is not looked up.
-        let mut values = vec![BEFORE; random.below(2 * sought.len() + 1)];
-        let mut after = values.clone();
-        for (place, value) in after.iter_mut().zip(&found) {
-            *place = *value;
-        }
-        let there = |key: &&u64| matches!(checked, Ok(accepted) if accepted.get(**key).is_some());
-        let number = count.map(|_| sought.iter().take(values.len()).filter(there).count() as u32);
-        let answer = ours::lookup_many(bytes, sought, &mut values);
-        same(
-            "lookup of many",
-            ("rkyv", (number, after)),
-            ("ours", (answer, values)),
-        )
-    }
-
-    /// The ranges of any archive: what certify refuses is refused with the same number, and nothing is written.
-    pub fn compare_ranges(
-        bytes: &[u8],
-        checked: &Result<Accepted, u8>,
-        ranges: &[Bounds],
-        random: &mut Random,
-    ) -> Result<(), String> {
-        let certified = model::certify(bytes);
-        for &(lower, upper) in ranges {
-            let (source, entries) = match (checked, certified) {
-                (Ok(accepted), Ok(_)) => matching(accepted, lower, upper),
-                _ => ("model", Vec::new()),
-            };
-            let (mut keys, mut values) = lent(&entries, random);
-            let (written, after) = written(&entries, &keys, &values);
-            let numbers = certified.map(|_| (written, entries.len() as u64));
-            let answer = ours::range(bytes, lower, upper, &mut keys, &mut values);
-            same(
-                &format!("range from {lower:?} to {upper:?}"),
-                (source, (numbers, after)),
-                ("ours", (answer, (keys, values))),
-            )?;
-        }
-        Ok(())
-    }
-
-    /// Column queries on any archive, as ranges between the keys of their ends; 18 comes after what certify refuses.
-    pub fn compare_columns(
-        bytes: &[u8],
-        checked: &Result<Accepted, u8>,
-        sought: &[u64],
-        random: &mut Random,
-    ) -> Result<(), String> {
-        let certified = model::certify(bytes);
-        for &key in sought {
-            let examination = (key >> 40) as u32 + (u32::from(random.one_in(16)) << 24);
-            let eye = random.pick(&[(key >> 39) as u8 & 1, 0, 1, 2]);
-            let a = (key >> 31) as i8;
-            let any = random.number() as i8;
-            let b = random.pick(&[a, a.wrapping_add(1), i8::MAX, -1, any]);
-            let from = u64::from(examination) << 40 | u64::from(eye) << 39;
-            let end = |x: i8| from | u64::from(x as u8) << 31;
-            let (lower, upper) = (
-                Bound::Included(end(a)),
-                Bound::Included(end(b) | 0x7fff_ffff),
-            );
-            let fits = match examination < 1 << 24 && eye < 2 {
-                true => certified,
-                false => certified.and(Err(18)),
-            };
-            let (source, entries) = match (checked, fits) {
-                (Ok(accepted), Ok(_)) => matching(accepted, lower, upper),
-                _ => ("model", Vec::new()),
-            };
-            let (mut keys, mut values) = lent(&entries, random);
-            let (written, after) = written(&entries, &keys, &values);
-            let numbers = fits.map(|_| (written, entries.len() as u64));
-            let answer = ours::column(bytes, examination, eye, a..=b, &mut keys, &mut values);
-            same(
-                &format!("column of {examination}, {eye}, from {a} to {b}"),
-                (source, (numbers, after)),
-                ("ours", (answer, (keys, values))),
-            )?;
-        }
-        Ok(())
-    }
-
-    /// Two lent lists, of keys and of values, whose lengths differ as a rule.
-    fn lent(entries: &[(u64, u64)], random: &mut Random) -> (Vec<u64>, Vec<u64>) {
-        let mut list = || vec![BEFORE; room(entries, random)];
-        (list(), list())
-    }
-
-    /// The number of entries written to lent lists, and the lists after it: the shorter decides, and later places keep their content.
-    fn written(
-        entries: &[(u64, u64)],
-        keys: &[u64],
-        values: &[u64],
-    ) -> (u32, (Vec<u64>, Vec<u64>)) {
-        let written = entries.len().min(keys.len()).min(values.len());
-        let (mut keys, mut values) = (keys.to_vec(), values.to_vec());
-        for (index, &(key, value)) in entries.iter().take(written).enumerate() {
-            (keys[index], values[index]) = (key, value);
-        }
-        (written as u32, (keys, values))
-    }
-
-    /// A length for a lent list: too short, right, or longer than the entries need.
-    fn room(entries: &[(u64, u64)], random: &mut Random) -> usize {
-        random.below(2 * entries.len() + 3)
-    }
 }

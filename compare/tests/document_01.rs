@@ -3,7 +3,7 @@
 use std::ops::Bound;
 
 use compare::by_hand::Output;
-use compare::model::{Column, KeyFields};
+use compare::model::{KeyFields, Packing::TwosComplement};
 use compare::questions::builds::checksum;
 use compare::rkyv_map::{build, by_key, Accepted, Archive};
 use compare::{cases, model, rkyv_parts, trees};
@@ -62,28 +62,20 @@ fn case_3() {
 /// Case *9, and each field past its end.
 #[test]
 fn case_9() {
-    let key = |examination, eye, presentation| {
-        model::pack(&KeyFields {
-            examination,
-            eye,
-            x: -3,
-            y: 3,
-            presentation,
-        })
+    let fields = |examination, eye, presentation| KeyFields {
+        examination,
+        eye,
+        x: -3,
+        y: 3,
+        presentation,
     };
-    assert_eq!(key(1, 0, 2), Ok(1_642_850_156_546));
-    assert_eq!(key(1 << 24, 0, 2), Err(18));
-    assert_eq!(key(1, 2, 2), Err(18));
-    assert_eq!(key(1, 0, 1 << 23), Err(18));
-    let back = model::unpack(1_642_850_156_546);
-    let fields = (
-        back.examination,
-        back.eye,
-        back.x,
-        back.y,
-        back.presentation,
-    );
-    assert_eq!(fields, (1, 0, -3, 3, 2));
+    let pack = |fields| model::pack(TwosComplement, &fields);
+    assert_eq!(pack(fields(1, 0, 2)), Ok(1_642_850_156_546));
+    assert_eq!(pack(fields(1 << 24, 0, 2)), Err(18));
+    assert_eq!(pack(fields(1, 2, 2)), Err(18));
+    assert_eq!(pack(fields(1, 0, 1 << 23)), Err(18));
+    let back = model::unpack(TwosComplement, 1_642_850_156_546);
+    assert_eq!(back, fields(1, 0, 2));
 }
 
 /// rkyv runs on to the last entry where bounds cross; document 01 gives nothing.
@@ -268,38 +260,6 @@ fn build_faults() {
     assert_eq!(fault(&[1, 2], 2, 4_097, 0), Some(13));
     assert_eq!(fault(&[1, 2], 2, 4_096, 103), Some(14));
     assert_eq!(fault(&[1, 2], 2, 4_096, 104), None);
-}
-
-/// A column query takes every y and presentation of its columns, and those only.
-#[test]
-fn columns() {
-    let column = |examination, eye, a, b| {
-        model::column(Column {
-            examination,
-            eye,
-            a,
-            b,
-        })
-    };
-    let key = |x, y, presentation| {
-        model::pack(&KeyFields {
-            examination: 1,
-            eye: 0,
-            x,
-            y,
-            presentation,
-        })
-        .unwrap()
-    };
-    let last = (1 << 23) - 1;
-    let bounds = (
-        Bound::Included(key(3, 0, 0)),
-        Bound::Included(key(9, -1, last)),
-    );
-    assert_eq!(column(1, 0, 3, 9), Ok(bounds));
-    assert_eq!(key(10, 0, 0) - key(9, -1, last), 1);
-    assert_eq!(column(1 << 24, 0, 3, 9), Err(18));
-    assert_eq!(column(1, 2, 3, 9), Err(18));
 }
 
 /// The checksum is the remainder of the bytes as a number, and every byte counts.

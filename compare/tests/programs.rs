@@ -84,7 +84,7 @@ fn sample() {
             }
         }
     }
-    // Cases *1 to *3, *6 and *9 among others; sizes and parts that document 01 gives.
+    // Cases *1 to *3, *6 and *9 among others, *9 by both packings; sizes and parts that document 01 gives.
     for line in [
         "walk 64 of 76",
         "range 64 of 76",
@@ -95,6 +95,7 @@ fn sample() {
         "pack refused 18",
         "column refused 18",
         "pack 1642850156546",
+        "pack 1369045991426",
         "unpack 1 0 -3 3 2",
         "distance -9223372036854775808",
         "offset 2147483647",

@@ -1,11 +1,13 @@
 /*
- * list FILE prints what an archive is, and its points.
+ * list FILE PACKING prints what an archive is, and its points. PACKING is how x and y stand in its keys, twos-complement or plus-128, which the
+ * archive does not say.
  *
  * The first line is `certified N`, `open N` where the archive is accepted and not certified, or `refused N: why`. Then comes a line a point, in
  * the order of the walk: the examination, the eye, x and y in degrees, the presentation, whether it was seen, and the threshold. Why an open
  * archive is not certified is said on standard error.
  *
- * The program ends with 0, with 1 where the archive is refused, and with 2 where the file cannot be read or the text not written.
+ * The program ends with 0, with 1 where the archive is refused, and with 2 where the arguments are not understood, the file cannot be read or
+ * the text not written.
  *
  * It compiles as C99 and as C++17.
  */
@@ -26,12 +28,20 @@ static int failed(const char *what)
     return FAILED;
 }
 
-static void print_point(uint64_t key, uint64_t value)
+/* The packing of that name, or -1. */
+static int packing_named(const char *name)
+{
+    if (strcmp(name, "twos-complement") == 0)
+        return FIELDMAP_TWOS_COMPLEMENT;
+    return strcmp(name, "plus-128") == 0 ? FIELDMAP_PLUS_128 : -1;
+}
+
+static void print_point(uint64_t key, uint8_t packing, uint64_t value)
 {
     uint32_t examination, presentation;
     uint8_t eye;
     int8_t x, y;
-    fieldmap_unpack(key, &examination, &eye, &x, &y, &presentation);
+    fieldmap_unpack(key, packing, &examination, &eye, &x, &y, &presentation);
     int tenths = (int)fieldmap_threshold(value);
     printf("%" PRIu32 " %s %d %d %" PRIu32 " %s %d.%d dB\n", examination, eye == 0 ? "right" : "left", x, y, presentation,
            fieldmap_seen(value) ? "seen" : "unseen", tenths / 10, tenths % 10);
@@ -44,7 +54,8 @@ static int refused(int64_t answer)
 }
 
 /* Prints an archive whose entries fit lists of so many places. */
-static int print_list(const uint8_t *archive, size_t length, int certified, uint64_t *keys, uint64_t *values, size_t room)
+static int print_list(
+    const uint8_t *archive, size_t length, uint8_t packing, int certified, uint64_t *keys, uint64_t *values, size_t room)
 {
     uint64_t count;
     int64_t written = fieldmap_walk(archive, length, keys, room, values, room, &count);
@@ -52,11 +63,11 @@ static int print_list(const uint8_t *archive, size_t length, int certified, uint
         return refused(written);
     printf("%s %" PRIu64 "\n", certified ? "certified" : "open", count);
     for (int64_t i = 0; i < written; i++)
-        print_point(keys[i], values[i]);
+        print_point(keys[i], packing, values[i]);
     return LISTED;
 }
 
-static int list(const uint8_t *archive, size_t length)
+static int list(const uint8_t *archive, size_t length, uint8_t packing)
 {
     int64_t certified = fieldmap_certify(archive, length);
     int64_t count = certified >= 0 ? certified : fieldmap_check(archive, length);
@@ -73,7 +84,7 @@ static int list(const uint8_t *archive, size_t length)
     if (room > 0 && (keys == NULL || values == NULL))
         status = failed("its entries");
     else
-        status = print_list(archive, length, certified >= 0, keys, values, room);
+        status = print_list(archive, length, packing, certified >= 0, keys, values, room);
     free(keys);
     free(values);
     return status;
@@ -83,8 +94,9 @@ int main(int argc, char **argv)
 {
     /* One byte more than the longest archive, so that a longer file is refused as one. */
     static uint8_t archive[FIELDMAP_LONGEST_ARCHIVE + 1];
-    if (argc != 2) {
-        fprintf(stderr, "usage: list FILE\n");
+    int packing = argc == 3 ? packing_named(argv[2]) : -1;
+    if (packing < 0) {
+        fprintf(stderr, "usage: list FILE twos-complement|plus-128\n");
         return FAILED;
     }
     FILE *file = fopen(argv[1], "rb");
@@ -94,6 +106,6 @@ int main(int argc, char **argv)
     if (ferror(file))
         return failed(argv[1]);
     fclose(file);
-    int status = list(archive, length);
+    int status = list(archive, length, (uint8_t)packing);
     return fflush(stdout) == 0 ? status : failed("standard output");
 }

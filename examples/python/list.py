@@ -1,7 +1,8 @@
-"""list.py FILE [LIBRARY] prints what an archive is, and its points, as examples/c/list.c does.
+"""list.py FILE PACKING [LIBRARY] prints what an archive is, and its points, as examples/c/list.c does.
 
-LIBRARY is the shared library, ./libfieldmap.so if none is given. The program ends with 0, with 1 where the archive is refused, and with 2 where the
-file or the library cannot be read.
+PACKING is how x and y stand in the archive's keys, twos-complement or plus-128, which the archive does not say. LIBRARY is the shared library,
+./libfieldmap.so if none is given. The program ends with 0, with 1 where the archive is refused, and with 2 where the arguments are not understood or
+the file or the library cannot be read.
 """
 import ctypes as c
 import sys
@@ -17,6 +18,8 @@ the entries are not as many as recorded
 a leaf is empty, or an inner node has no first child
 a key is not above the one before""".splitlines()
 
+# The packings by their names, as fieldmap.h numbers them.
+PACKINGS = {"twos-complement": 0, "plus-128": 1}
 
 
 def fail(*words):
@@ -24,9 +27,10 @@ def fail(*words):
     sys.exit(2)
 
 
-if len(sys.argv) not in (2, 3):
-    fail("usage: list.py FILE [LIBRARY]")
-file, library = (sys.argv[1:] + ["./libfieldmap.so"])[:2]
+if len(sys.argv) not in (3, 4) or sys.argv[2] not in PACKINGS:
+    fail("usage: list.py FILE twos-complement|plus-128 [LIBRARY]")
+file, named, library = (sys.argv[1:] + ["./libfieldmap.so"])[:3]
+packing = PACKINGS[named]
 try:
     fieldmap = c.CDLL(library)
     with open(file, "rb") as opened:
@@ -39,7 +43,7 @@ for call, *arguments in [
     (fieldmap.fieldmap_check, BYTES, SIZE),
     (fieldmap.fieldmap_certify, BYTES, SIZE),
     (fieldmap.fieldmap_walk, BYTES, SIZE, U64, SIZE, U64, SIZE, U64),
-    (fieldmap.fieldmap_unpack, c.c_uint64, *map(c.POINTER, FIELDS)),
+    (fieldmap.fieldmap_unpack, c.c_uint64, c.c_uint8, *map(c.POINTER, FIELDS)),
     (fieldmap.fieldmap_seen, c.c_uint64),
     (fieldmap.fieldmap_threshold, c.c_uint64),
 ]:
@@ -62,7 +66,7 @@ written = fieldmap.fieldmap_walk(archive, len(archive), keys, count, values, cou
 print("certified" if certified >= 0 else "open", count)
 for key, value in zip(keys[:written], values[:written]):
     fields = [field() for field in FIELDS]
-    fieldmap.fieldmap_unpack(key, *fields)
+    fieldmap.fieldmap_unpack(key, packing, *fields)
     examination, eye, x, y, presentation = (field.value for field in fields)
     seen = "seen" if fieldmap.fieldmap_seen(value) else "unseen"
     decibels = fieldmap.fieldmap_threshold(value) / 10

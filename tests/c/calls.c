@@ -137,24 +137,37 @@ static void read_lists(const uint8_t *archive)
     EXPECT(holds_list(ENTRIES, 1) && number.number == ENTRIES && kept(&number));
 }
 
-/* Points of the left eye at x from -1 to 1. */
-static void read_column(void)
+/* A column query of three points: from a to b it gives n of them, in the order of their keys, from the first on. */
+struct query {
+    int8_t a, b;
+    size_t first, n;
+};
+
+/* Points at three x, which are in the order of their keys, and the queries of them. */
+static const int8_t old_x[3] = {0, 1, -1}, new_x[3] = {-1, 0, 1};
+static const struct query old_queries[5] = {{-1, -1, 2, 1}, {-1, 1, 0, 0}, {1, -1, 1, 2}, {0, -1, 0, 3}, {0, 1, 0, 2}};
+static const struct query new_queries[8] = {{-1, -1, 0, 1}, {-1, 1, 0, 3},  {-128, 127, 0, 3}, {-128, 0, 0, 2},
+                                            {0, 127, 1, 2}, {1, -1, 0, 0}, {0, -1, 0, 0},     {127, -128, 0, 0}};
+
+static void read_columns(uint8_t packing, const int8_t *x, const struct query *queries, size_t number)
 {
     uint8_t archive[104];
-    uint64_t points[3], found[3] = {BEFORE, BEFORE, BEFORE}, theirs[3];
+    uint64_t points[3];
     struct stored matching = fresh;
-    const int8_t x[3] = {0, 1, -1};
     for (size_t i = 0; i < 3; i++)
-        EXPECT(fieldmap_pack(4, 1, x[i], -5, 6, &points[i]) == 0);
+        EXPECT(fieldmap_pack(packing, 4, 1, x[i], -5, 6, &points[i]) == 0);
     EXPECT(fieldmap_build(archive, 104, 0, points, 3, points, 3) == 104);
-    EXPECT(fieldmap_column(archive, 104, 4, 1, -1, -1, found, 3, theirs, 3, &matching.number) == 1);
-    EXPECT(found[0] == points[2] && theirs[0] == points[2] && found[1] == BEFORE && matching.number == 1);
-    EXPECT(fieldmap_column(archive, 104, 4, 1, -1, 1, found, 3, theirs, 3, &matching.number) == 0 && matching.number == 0);
-    EXPECT(fieldmap_column(archive, 104, 4, 1, 1, -1, found, 3, theirs, 3, &matching.number) == 2 && matching.number == 2);
-    EXPECT(fieldmap_column(archive, 104, 4, 1, 0, -1, found, 3, theirs, 3, &matching.number) == 3 && matching.number == 3);
-    EXPECT(fieldmap_column(archive, 104, 4, 1, 0, 1, found, 3, theirs, 3, &matching.number) == 2 && matching.number == 2);
-    REFUSED(fieldmap_column(archive, 104, 4, 2, 0, 1, found, 3, theirs, 3, &matching.number), FIELDMAP_KEY_FIELD_OVERFLOW);
-    EXPECT(matching.number == 2 && kept(&matching));
+    REFUSED(fieldmap_column(archive, 104, packing, 4, 2, 0, 1, NULL, 0, NULL, 0, &matching.number), FIELDMAP_KEY_FIELD_OVERFLOW);
+    REFUSED(fieldmap_column(archive, 104, packing, 1 << 24, 1, 0, 1, NULL, 0, NULL, 0, &matching.number), FIELDMAP_KEY_FIELD_OVERFLOW);
+    REFUSED(fieldmap_column(archive, 9, packing, 4, 2, 0, 1, NULL, 0, NULL, 0, &matching.number), FIELDMAP_UNALIGNED_POINTER);
+    EXPECT(matching.number == BEFORE);
+    for (const struct query *q = queries; q < queries + number; q++) {
+        uint64_t found[3] = {BEFORE, BEFORE, BEFORE}, theirs[3] = {BEFORE, BEFORE, BEFORE};
+        EXPECT(fieldmap_column(archive, 104, packing, 4, 1, q->a, q->b, found, 3, theirs, 3, &matching.number) == (int64_t)q->n);
+        EXPECT(matching.number == q->n && kept(&matching));
+        for (size_t i = 0; i < 3; i++)
+            EXPECT(found[i] == (i < q->n ? points[q->first + i] : BEFORE) && theirs[i] == found[i]);
+    }
 }
 
 /* Every list of every call, empty and passed as a null pointer. */
@@ -169,7 +182,7 @@ static void null_lists(const uint8_t *archive)
     REFUSED(fieldmap_lookup_many(NULL, 0, NULL, 0, NULL, 0), FIELDMAP_INVALID_SUBTREE_POINTER);
     REFUSED(fieldmap_walk(NULL, 0, NULL, 0, NULL, 0, &n), FIELDMAP_INVALID_SUBTREE_POINTER);
     REFUSED(fieldmap_range(NULL, 0, 2, 0, 2, 0, NULL, 0, NULL, 0, &n), FIELDMAP_INVALID_SUBTREE_POINTER);
-    REFUSED(fieldmap_column(NULL, 0, 0, 0, 0, 0, NULL, 0, NULL, 0, &n), FIELDMAP_INVALID_SUBTREE_POINTER);
+    REFUSED(fieldmap_column(NULL, 0, 0, 0, 0, 0, 0, NULL, 0, NULL, 0, &n), FIELDMAP_INVALID_SUBTREE_POINTER);
     EXPECT(one == 1 && n == BEFORE);
 
     clear_lists();
@@ -182,9 +195,9 @@ static void null_lists(const uint8_t *archive)
     EXPECT(fieldmap_range(archive, LENGTH, FIELDMAP_INCLUDED, 1, FIELDMAP_INCLUDED, 5, NULL, 0, NULL, 0, &n) == 0 && n == 5);
     EXPECT(fieldmap_range(archive, LENGTH, FIELDMAP_INCLUDED, 1, FIELDMAP_INCLUDED, 6, keys, ROOM, NULL, 0, &n) == 0 && n == 6);
     EXPECT(fieldmap_range(archive, LENGTH, FIELDMAP_INCLUDED, 1, FIELDMAP_INCLUDED, 7, NULL, 0, values, ROOM, &n) == 0 && n == 7);
-    EXPECT(fieldmap_column(archive, LENGTH, 0, 0, 0, 0, NULL, 0, NULL, 0, &n) == 0 && n == ENTRIES);
-    EXPECT(fieldmap_column(archive, LENGTH, 0, 0, 0, 0, keys, ROOM, NULL, 0, &n) == 0 && n == ENTRIES);
-    EXPECT(fieldmap_column(archive, LENGTH, 0, 0, 0, 0, NULL, 0, values, ROOM, &n) == 0 && n == ENTRIES);
+    EXPECT(fieldmap_column(archive, LENGTH, 0, 0, 0, 0, 0, NULL, 0, NULL, 0, &n) == 0 && n == ENTRIES);
+    EXPECT(fieldmap_column(archive, LENGTH, 0, 0, 0, 0, 0, keys, ROOM, NULL, 0, &n) == 0 && n == ENTRIES);
+    EXPECT(fieldmap_column(archive, LENGTH, 1, 0, 0, -128, 0, NULL, 0, values, ROOM, &n) == 0 && n == ENTRIES);
     EXPECT(holds_list(0, 0));
 
     REFUSED(fieldmap_build(NULL, 0, 0, NULL, 0, NULL, 0), FIELDMAP_OUTPUT_TOO_SHORT);
@@ -217,19 +230,32 @@ static void parts(void)
     EXPECT(kept(&next) && kept(&zeros));
 }
 
-static void fields(void)
+/* The key of a point by a packing, and its fields by the same. */
+static void fields(uint8_t packing, uint64_t expected)
 {
     struct stored key = fresh;
     uint32_t examination[3] = {9, 9, 9}, presentation[3] = {9, 9, 9};
     uint8_t eye[3] = {9, 9, 9};
     int8_t x[3] = {9, 9, 9}, y[3] = {9, 9, 9};
-    REFUSED(fieldmap_pack(1, 0, -3, 3, UINT32_C(1) << 23, &key.number), FIELDMAP_KEY_FIELD_OVERFLOW);
+    REFUSED(fieldmap_pack(packing, UINT32_C(1) << 24, 0, -3, 3, 2, &key.number), FIELDMAP_KEY_FIELD_OVERFLOW);
+    REFUSED(fieldmap_pack(packing, 1, 2, -3, 3, 2, &key.number), FIELDMAP_KEY_FIELD_OVERFLOW);
+    REFUSED(fieldmap_pack(packing, 1, 0, -3, 3, UINT32_C(1) << 23, &key.number), FIELDMAP_KEY_FIELD_OVERFLOW);
     EXPECT(key.number == BEFORE);
-    EXPECT(fieldmap_pack(1, 0, -3, 3, 2, &key.number) == 0 && key.number == UINT64_C(1642850156546) && kept(&key));
-    EXPECT(fieldmap_unpack(key.number, &examination[1], &eye[1], &x[1], &y[1], &presentation[1]) == 0);
+    EXPECT(fieldmap_pack(packing, 1, 0, -3, 3, 2, &key.number) == 0 && key.number == expected && kept(&key));
+    EXPECT(fieldmap_unpack(key.number, packing, &examination[1], &eye[1], &x[1], &y[1], &presentation[1]) == 0);
     EXPECT(examination[1] == 1 && eye[1] == 0 && x[1] == -3 && y[1] == 3 && presentation[1] == 2);
+    EXPECT(fieldmap_unpack(0, packing, &examination[1], &eye[1], &x[1], &y[1], &presentation[1]) == 0);
+    EXPECT(examination[1] == 0 && eye[1] == 0 && presentation[1] == 0);
+    EXPECT(x[1] == (packing == FIELDMAP_TWOS_COMPLEMENT ? 0 : -128) && y[1] == x[1]);
+    EXPECT(fieldmap_unpack(UINT64_MAX, packing, &examination[1], &eye[1], &x[1], &y[1], &presentation[1]) == 0);
+    EXPECT(examination[1] == 0xffffff && eye[1] == 1 && presentation[1] == 0x7fffff);
+    EXPECT(x[1] == (packing == FIELDMAP_TWOS_COMPLEMENT ? -1 : 127) && y[1] == x[1]);
     for (size_t i = 0; i < 3; i += 2)
         EXPECT(examination[i] == 9 && eye[i] == 9 && x[i] == 9 && y[i] == 9 && presentation[i] == 9);
+}
+
+static void bits_of_values(void)
+{
     EXPECT(fieldmap_seen(UINT64_MAX) == 1 && fieldmap_seen(UINT64_MAX >> 1) == 0);
     EXPECT(fieldmap_threshold(UINT64_MAX) == 1023 && fieldmap_threshold(UINT64_C(324) << 53) == 324);
     EXPECT(fieldmap_threshold(UINT64_C(1) << 63) == 0 && fieldmap_threshold((UINT64_C(1) << 53) - 1) == 0);
@@ -252,15 +278,21 @@ static void texts(void)
 int main(void)
 {
     static uint8_t archive[LENGTH + 8];
+    const uint8_t plus_128[3] = {FIELDMAP_PLUS_128, 2, 255};
     memset(archive, 0xaa, sizeof archive);
     build(archive, sizeof archive);
     lengths();
     read_one(archive);
     read_lists(archive);
-    read_column();
     null_lists(archive);
     parts();
-    fields();
+    read_columns(FIELDMAP_TWOS_COMPLEMENT, old_x, old_queries, 5);
+    fields(FIELDMAP_TWOS_COMPLEMENT, UINT64_C(1642850156546));
+    for (size_t i = 0; i < 3; i++) {
+        read_columns(plus_128[i], new_x, new_queries, 8);
+        fields(plus_128[i], UINT64_C(1369045991426));
+    }
+    bits_of_values();
     texts();
     printf("every call answers as it should\n");
     return 0;

@@ -36,7 +36,8 @@ static void lookup_bytes(void) { answer = fieldmap_lookup_bytes(archive, length,
 static void lookup_many(void) { answer = fieldmap_lookup_many(archive, length, LISTS); }
 static void walk(void) { answer = fieldmap_walk(archive, length, LISTS, &number); }
 static void range(void) { answer = fieldmap_range(archive, length, FIELDMAP_EXCLUDED, 0, FIELDMAP_EXCLUDED, UINT64_MAX, LISTS, &number); }
-static void column(void) { answer = fieldmap_column(archive, length, 0, 0, 0, -1, LISTS, &number); }
+static void old_column(void) { answer = fieldmap_column(archive, length, FIELDMAP_TWOS_COMPLEMENT, 0, 0, 0, -1, LISTS, &number); }
+static void new_column(void) { answer = fieldmap_column(archive, length, FIELDMAP_PLUS_128, 0, 0, -128, 127, LISTS, &number); }
 static void build(void) { answer = fieldmap_build(archive, sizeof archive, 0, keys, entries, values, entries); }
 static void build_length(void) { answer = fieldmap_build_length(entries, 0); }
 
@@ -53,7 +54,8 @@ static struct {
     {"fieldmap_lookup_many", lookup_many, 0},
     {"fieldmap_walk", walk, 0},
     {"fieldmap_range", range, 0},
-    {"fieldmap_column", column, 0},
+    {"fieldmap_column, two's complement", old_column, 0},
+    {"fieldmap_column, plus 128", new_column, 0},
     {"fieldmap_build", build, 0},
     {"fieldmap_build_length", build_length, 0},
 };

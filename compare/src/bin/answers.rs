@@ -8,12 +8,15 @@
 //!
 //! - 1: the archive's length (u32) and the archive; the number of lookups (u32) and their keys (u64); the number of ranges (u32) and of each
 //!   the lower and the upper bound, a kind (u8: 0 included, 1 excluded, 2 unbounded) and a key (u64); the number of column queries (u32)
-//!   and of each examination (u32), eye (u8), a and b (i8).
+//!   and of each the packing, examination (u32), eye (u8), a and b (i8).
 //! - 2: a build: the header's length (u64), the output's (u32), and the lists of keys and of values, each its length (u32), its form (u8)
 //!   and the numbers (form 0, u64), or the first number and the step to the next (form 1, u64).
 //! - 3 and 4: a signed difference and a 32-bit offset, from and to (u64). 5: an absent offset, at (u64). 6: an alignment step, position and
 //!   alignment (u64).
-//! - 7: a key to pack: examination (u32), eye (u8), x and y (i8), presentation (u32). 8: a key to unpack (u64). 9: a value to read (u64).
+//! - 7: a key to pack: packing, examination (u32), eye (u8), x and y (i8), presentation (u32). 8: a key to unpack: packing, key (u64). 9: a
+//!   value to read (u64).
+//!
+//! A packing (u8) is 0 for two's complement and 1 for plus 128.
 //!
 //! The text begins with `too long refused 1`, of 1,048,577 bytes that are 165, and `longest`, of 1,048,576 of them, which the program makes
 //! itself. A refused call prints its name and `refused R`. Else, in the order of the questions:
@@ -48,7 +51,7 @@ const NOT_RKYV: [(&str, &[&str]); 4] = [
     ),
 ];
 /// The sample for the gate has at least this many archives, builds, and parts and keys.
-const SAMPLE: [usize; 3] = [461, 136, 257];
+const SAMPLE: [usize; 3] = [464, 136, 475];
 /// A random sample of this many archives must have each refusal often enough.
 const LONG: usize = 10_000;
 

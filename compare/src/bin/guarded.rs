@@ -15,7 +15,7 @@ use compare::counts::Counts;
 use compare::lender::{Lender, Place};
 use compare::rkyv_map::Found;
 use compare::trees::{self, Random};
-use compare::{model, ours};
+use compare::{columns, model, ours};
 
 /// What a place of a lent list holds before a call.
 const BEFORE: u64 = 0x3333_3333_3333_3333;
@@ -156,7 +156,7 @@ fn read(
     trace.push(format!("{many:?} {values:?}"));
     expect(lenders.values.margin_kept(), "beside a lookup of many")?;
 
-    for call in 0..4 {
+    for call in 0..5 {
         let rooms = [0, 1].map(|_| vec![BEFORE; random.below(2 * own.len() + 3)]);
         let keys = lenders.keys.lend(place, &rooms[0]);
         let values = lenders.values.lend(place, &rooms[1]);
@@ -168,9 +168,8 @@ fn read(
             }
             _ => {
                 let key = trees::sought(&own, 1, random)[0];
-                let x = (key >> 31) as i8;
-                let eye = random.below(3) as u8;
-                ours::column(archive, (key >> 40) as u32, eye, x..=i8::MAX, keys, values)
+                let column = columns::about(key, model::PACKINGS[call - 3], random);
+                ours::column(archive, column, keys, values)
             }
         };
         let written = answer.map_or(0, |answer| answer.0) as usize;

@@ -3,11 +3,11 @@
 
 use std::ops::Bound;
 
-use super::{length, line, Question};
-use crate::cases;
-use crate::model::{self, Column, KeyFields};
-use crate::rkyv_map::{self, Accepted, Archive};
+use super::{length, line, number, packed, Question};
+use crate::model::{self, Column, Packing};
+use crate::rkyv_map::{Accepted, Archive};
 use crate::trees::{self, Random};
+use crate::{cases, columns};
 
 /// The longest archive that the input has.
 const LONGEST: usize = 65_536;
@@ -29,11 +29,11 @@ const TAKEN: [(u32, usize); 10] = [
 ];
 
 /// An archive and what is asked of it.
-struct Case {
-    archive: Vec<u8>,
-    keys: Vec<u64>,
-    ranges: Vec<(Bound<u64>, Bound<u64>)>,
-    columns: Vec<Column>,
+pub struct Case {
+    pub archive: Vec<u8>,
+    pub keys: Vec<u64>,
+    pub ranges: Vec<(Bound<u64>, Bound<u64>)>,
+    pub columns: Vec<Column>,
 }
 
 /// The lines of the archives that the input does not have: 1,048,577 bytes, and 1,048,576 of them.
@@ -48,7 +48,7 @@ pub fn longest() -> Vec<String> {
     ]
 }
 
-/// Document 01's archives, each asked for all its keys, all its entries and the range of case *4; an archive of packed keys; then generated
+/// Document 01's archives, each asked for all its keys, all its entries and the range of case *4; archives of packed keys; then generated
 /// ones in the order of their seeds, until there are enough of each kind.
 pub fn all() -> Vec<Question> {
     let random = &mut Random::new(0);
@@ -61,7 +61,7 @@ pub fn all() -> Vec<Question> {
         case.ranges.push((Bound::Excluded(3), Bound::Excluded(3)));
         asked.push(case);
     }
-    asked.push(examinations());
+    asked.extend(packed::all());
     let mut wanted = TAKEN;
     for seed in 0.. {
         let archive = trees::archive(seed);
@@ -89,57 +89,6 @@ pub fn random(number: usize, seed: u64) -> Vec<Question> {
         .collect()
 }
 
-/// Points of three examinations, and column queries of them: of one column and of several, over the sign, crossed, and refused.
-fn examinations() -> Case {
-    let mut keys = Vec::new();
-    for examination in [0, 1, (1 << 24) - 1] {
-        for (eye, x) in [(0, -27), (0, -3), (0, 3), (0, 9), (1, -9), (1, 0), (1, 27)] {
-            for (y, presentation) in [(-3, 0), (3, 0), (3, 2), (21, (1 << 23) - 1)] {
-                let fields = KeyFields {
-                    examination,
-                    eye,
-                    x,
-                    y,
-                    presentation,
-                };
-                keys.push(model::pack(&fields).expect("fields that fit"));
-            }
-        }
-    }
-    keys.sort_unstable();
-    let values: Vec<u64> = (0..keys.len() as u64)
-        .map(|index| 1 << 63 | index << 53)
-        .collect();
-    let mut columns = Vec::new();
-    for examination in [0, 1, 2, (1 << 24) - 1, 1 << 24] {
-        for eye in [0, 1, 2] {
-            for (a, b) in [
-                (-27, -3),
-                (3, 9),
-                (0, 127),
-                (3, -3),
-                (-3, 3),
-                (0, 0),
-                (3, 3),
-                (-128, 127),
-            ] {
-                columns.push(Column {
-                    examination,
-                    eye,
-                    a,
-                    b,
-                });
-            }
-        }
-    }
-    Case {
-        archive: rkyv_map::build(&[], &keys, &values),
-        keys: vec![keys[0], keys[40]],
-        ranges: vec![(Bound::Included(keys[3]), Bound::Excluded(keys[60]))],
-        columns,
-    }
-}
-
 fn keys_of(archive: &[u8]) -> Vec<u64> {
     if model::check(archive).is_err() {
         return Vec::new();
@@ -147,7 +96,8 @@ fn keys_of(archive: &[u8]) -> Vec<u64> {
     model::list(archive).iter().map(|entry| entry.key).collect()
 }
 
-/// A few questions about an archive: more if it is accepted, most if it is certified; and two columns, of which 18 refuses one.
+/// A few questions about an archive: more if it is accepted, most if it is certified; and four columns, one whose bounds cross, one that 18
+/// refuses, and by each packing one about a key that is looked up.
 fn ask(archive: Vec<u8>, random: &mut Random) -> Case {
     let keys = keys_of(&archive);
     let (lookups, ranges) = match (model::check(&archive), model::certify(&archive)) {
@@ -155,16 +105,21 @@ fn ask(archive: Vec<u8>, random: &mut Random) -> Case {
         (Ok(_), Err(_)) => (8, 1),
         (Err(_), Err(_)) => (1, 1),
     };
+    let sought = trees::sought(&keys, lookups, random);
     let column = |eye| Column {
+        packing: Packing::TwosComplement,
         examination: 0,
         eye,
         a: -1,
         b: 1,
     };
+    let key = sought[0];
+    let about = |packing| columns::about(key, packing, &mut Random::new(key));
+    let [old, new] = model::PACKINGS.map(about);
     Case {
-        keys: trees::sought(&keys, lookups, random),
+        keys: sought,
         ranges: (0..ranges).map(|_| trees::bounds(&keys, random)).collect(),
-        columns: vec![column(0), column(2)],
+        columns: vec![column(0), column(2), old, new],
         archive,
     }
 }
@@ -197,6 +152,7 @@ impl Case {
         }
         bytes.extend(length(self.columns.len()));
         for column in &self.columns {
+            bytes.push(number(column.packing));
             bytes.extend(column.examination.to_le_bytes());
             bytes.extend([column.eye, column.a as u8, column.b as u8]);
         }
@@ -245,7 +201,11 @@ impl Case {
         }
         for &column in &self.columns {
             let bounds = certified.and_then(|_| model::column(column));
-            lines.extend(range("column", accepted, bounds));
+            let answer = range("column", accepted, bounds);
+            if bounds.is_ok() {
+                assert_eq!(answer, by_fields(accepted, column), "{column:?}");
+            }
+            lines.extend(answer);
         }
         lines
     }
@@ -266,6 +226,13 @@ fn range(
     }
     let range = accepted.range(lower, upper);
     written(call, &range, range.len())
+}
+
+/// A column query's answer by the fields of the keys, without its bounds.
+fn by_fields(accepted: &Accepted, column: Column) -> Vec<String> {
+    let mut entries = accepted.visit();
+    entries.retain(|entry| model::in_column(column, entry.0));
+    written("column", &entries, entries.len())
 }
 
 /// What two lent lists take of some entries.

@@ -2,7 +2,10 @@
 
 pub mod archives;
 pub mod builds;
+mod packed;
 pub mod parts;
+
+use crate::model::Packing;
 
 /// A question's bytes, its kind first, and the lines of its answer.
 pub struct Question {
@@ -13,6 +16,14 @@ pub struct Question {
 /// A list's length, as the input has it.
 fn length(length: usize) -> [u8; 4] {
     u32::try_from(length).expect("a short list").to_le_bytes()
+}
+
+/// A packing, as the input has it.
+fn number(packing: Packing) -> u8 {
+    match packing {
+        Packing::TwosComplement => 0,
+        Packing::Plus128 => 1,
+    }
 }
 
 /// A line that begins with the call's name and has its answer, or the refusal.

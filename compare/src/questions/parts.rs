@@ -1,8 +1,8 @@
 //! Questions to the parts, to key packing and to the bits of values. rkyv answers the parts; document 01 answers 17, which is ours alone, and
-//! the rest.
+//! the rest, with document 02 for the second packing.
 
-use super::{line, Question};
-use crate::model::{self, KeyFields};
+use super::{line, number, Question};
+use crate::model::{self, KeyFields, Packing, PACKINGS};
 use crate::rkyv_parts;
 use crate::trees::Random;
 
@@ -40,9 +40,9 @@ struct Asked {
     positions: Vec<u64>,
     /// Positions and alignments.
     steps: Vec<(u64, u64)>,
-    /// Keys to pack, and those that can be are unpacked again.
+    /// Keys to pack by both packings; what they give is unpacked by both.
     keys: Vec<KeyFields>,
-    /// Keys to unpack.
+    /// Keys to unpack by both packings.
     packed: Vec<u64>,
     /// Values to read.
     values: Vec<u64>,
@@ -50,7 +50,7 @@ struct Asked {
 
 impl Asked {
     /// Document 01's: cases *1 to *3 and *9, an absent mark at the largest position, alignments 32, 64 and 0, a padded position past the
-    /// largest, each field of a key at and past its end.
+    /// largest, each field of a key at and past its end; and points at every end of x and y, and on both sides of 0.
     fn named() -> Self {
         let (half, most) = (1 << 63, u64::MAX);
         let (examinations, presentations) = (1 << 24, 1 << 23);
@@ -60,7 +60,7 @@ impl Asked {
         let mut steps = vec![(5, 8), (8, 8), (1, 32), (0, 64), (1, 64), (0, 0), (7, 0)];
         steps.extend([(most, 1), (most, 2), (most - 31, 32), (most - 30, 32)]);
         steps.extend([(3, 3), (0, 12), (0, most), (0, half)]);
-        let keys = vec![
+        let mut keys = vec![
             key(1, 0, -3, 3, 2),
             key(examinations - 1, 1, -1, -1, presentations - 1),
             key(0, 0, i8::MIN, i8::MAX, 0),
@@ -72,6 +72,9 @@ impl Asked {
             key(0, 0, 0, 0, u32::MAX),
             key(examinations, 2, -128, 127, presentations),
         ];
+        for x in [-128, -1, 0, 127] {
+            keys.extend([-128, -1, 0, 127].map(|y| key(1, 0, x, y, 2)));
+        }
         Self {
             pairs,
             positions: vec![0, 1, 1 << 31, half - 1, half, most - 1, most],
@@ -88,9 +91,15 @@ impl Asked {
         questions.extend(self.pairs.iter().map(|&(from, to)| offset(from, to)));
         questions.extend(self.positions.iter().map(|&at| absent(at)));
         questions.extend(self.steps.iter().map(|&(position, by)| align(position, by)));
-        questions.extend(self.keys.iter().map(pack));
-        let packed = self.keys.iter().flat_map(model::pack);
-        questions.extend(packed.chain(self.packed.iter().copied()).map(unpack));
+        let mut packed = self.packed.clone();
+        for packing in PACKINGS {
+            questions.extend(self.keys.iter().map(|fields| pack(packing, fields)));
+            let fitting = self.keys.iter().flat_map(|key| model::pack(packing, key));
+            packed.extend(fitting);
+        }
+        for packing in PACKINGS {
+            questions.extend(packed.iter().map(|&key| unpack(packing, key)));
+        }
         questions.extend(self.values.iter().map(|&number| value(number)));
         questions
     }
@@ -168,12 +177,10 @@ fn align(position: u64, alignment: u64) -> Question {
     about(6, &[position, alignment], text)
 }
 
-fn pack(fields: &KeyFields) -> Question {
-    let mut question = about(
-        7,
-        &[],
-        line("pack", model::pack(fields), |key| key.to_string()),
-    );
+fn pack(packing: Packing, fields: &KeyFields) -> Question {
+    let answer = model::pack(packing, fields);
+    let mut question = about(7, &[], line("pack", answer, |key| key.to_string()));
+    question.bytes.push(number(packing));
     question.bytes.extend(fields.examination.to_le_bytes());
     let narrow = [fields.eye, fields.x as u8, fields.y as u8];
     question.bytes.extend(narrow);
@@ -181,16 +188,19 @@ fn pack(fields: &KeyFields) -> Question {
     question
 }
 
-fn unpack(key: u64) -> Question {
+fn unpack(packing: Packing, key: u64) -> Question {
     let KeyFields {
         examination,
         eye,
         x,
         y,
         presentation,
-    } = model::unpack(key);
+    } = model::unpack(packing, key);
     let text = format!("unpack {examination} {eye} {x} {y} {presentation}");
-    about(8, &[key], text)
+    let mut question = about(8, &[], text);
+    question.bytes.push(number(packing));
+    question.bytes.extend(key.to_le_bytes());
+    question
 }
 
 fn value(value: u64) -> Question {

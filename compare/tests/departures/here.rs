@@ -2,10 +2,10 @@
 
 use std::ops::Bound;
 
+use compare::model::{self, KeyFields, Packing};
 #[cfg(feature = "ours")]
 use compare::ours;
 use compare::rkyv_map::{self, Found};
-use compare::{model, model::KeyFields};
 
 pub fn check(archive: &[u8]) -> Result<u32, u8> {
     let answer = model::check(archive);
@@ -110,9 +110,9 @@ pub fn absent(at: u64) -> Result<i32, u8> {
     answer
 }
 
-pub fn pack(fields: &KeyFields) -> Result<u64, u8> {
-    let answer = model::pack(fields);
+pub fn pack(packing: Packing, fields: &KeyFields) -> Result<u64, u8> {
+    let answer = model::pack(packing, fields);
     #[cfg(feature = "ours")]
-    assert_eq!(ours::pack(fields), answer);
+    assert_eq!(ours::pack(packing, fields), answer);
     answer
 }

@@ -3,7 +3,7 @@
 use std::io::sink;
 use std::mem::MaybeUninit;
 
-use compare::model::KeyFields;
+use compare::model::{KeyFields, PACKINGS};
 use compare::rkyv_parts::emplaced;
 use rkyv::rancor::BoxedError;
 use rkyv::rel_ptr::RawRelPtrI32;
@@ -139,21 +139,25 @@ fn emplaced_too_far() {
     assert!(emplace((1 << 31) - 1).is_some());
 }
 
-/// rkyv has no key packing; each field at its end and past it.
+/// rkyv has no key packing; each field at its end and past it, by both packings.
 #[test]
 fn key_packing() {
-    let key = |examination, eye, presentation| {
-        here::pack(&KeyFields {
-            examination,
-            eye,
-            x: 0,
-            y: 0,
-            presentation,
-        })
-    };
     let last = (1 << 24) - 1;
-    assert_eq!(key(last, 0, 0), Ok(u64::from(last) << 40));
-    assert_eq!(key(last + 1, 0, 0), Err(18));
-    assert_eq!(key(0, 2, 0), Err(18));
-    assert_eq!(key(0, 0, 1 << 23), Err(18));
+    // Where x and y are 0, their fields are 0 or 128.
+    for (packing, degrees) in PACKINGS.into_iter().zip([0, 128 << 31 | 128 << 23]) {
+        let key = |examination, eye, presentation| {
+            let fields = KeyFields {
+                examination,
+                eye,
+                x: 0,
+                y: 0,
+                presentation,
+            };
+            here::pack(packing, &fields)
+        };
+        assert_eq!(key(last, 0, 0), Ok(u64::from(last) << 40 | degrees));
+        assert_eq!(key(last + 1, 0, 0), Err(18));
+        assert_eq!(key(0, 2, 0), Err(18));
+        assert_eq!(key(0, 0, 1 << 23), Err(18));
+    }
 }

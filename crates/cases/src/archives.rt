@@ -2,6 +2,7 @@
 use crate::builds::blank;
 use crate::input::next_bound;
 use crate::input::next_i8;
+use crate::input::next_packing;
 use crate::input::next_u8;
 use crate::input::next_u32;
 use crate::input::next_u64;
@@ -79,6 +80,7 @@ fn replay_range(archive: &[u8]) {
 }
 
 fn replay_column(archive: &[u8]) {
+    let packing = next_packing();
     let examination = next_u32();
     let eye = next_u8();
     let a = next_i8();
@@ -86,7 +88,16 @@ fn replay_column(archive: &[u8]) {
     let mut keys = [0u64; 80];
     let mut values = [0u64; 64];
     print(b"column ");
-    let answer = fieldmap::column(archive, examination, eye, a, b, &mut keys, &mut values);
+    let answer = fieldmap::column(
+        archive,
+        packing,
+        examination,
+        eye,
+        a,
+        b,
+        &mut keys,
+        &mut values,
+    );
     print_range(answer, &keys, &values);
 }
 

@@ -3,6 +3,7 @@ use fields::primitive::u32_at;
 use fields::primitive::u64_at;
 use fields::twos::signed8;
 use format::Bound;
+use format::Packing;
 use libc::STDIN_FILENO;
 
 pub fn next_u8() -> u8 {
@@ -37,6 +38,13 @@ pub fn next_bound() -> Bound {
         return Bound::Excluded(key);
     }
     Bound::Unbounded
+}
+
+pub fn next_packing() -> Packing {
+    if next_u8() == 0 {
+        return Packing::TwosComplement;
+    }
+    Packing::Plus128
 }
 
 // Fills the list with the next numbers.

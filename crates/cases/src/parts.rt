@@ -1,5 +1,6 @@
 // Questions to the parts, to key packing and to the bits of values.
 use crate::input::next_i8;
+use crate::input::next_packing;
 use crate::input::next_u8;
 use crate::input::next_u32;
 use crate::input::next_u64;
@@ -73,13 +74,14 @@ pub fn replay_align() {
 }
 
 pub fn replay_pack() {
+    let packing = next_packing();
     let examination = next_u32();
     let eye = next_u8();
     let x = next_i8();
     let y = next_i8();
     let presentation = next_u32();
     print(b"pack ");
-    match fieldmap::pack(examination, eye, x, y, presentation) {
+    match fieldmap::pack(packing, examination, eye, x, y, presentation) {
         Packed::Refused(why) => print_refused(why),
         Packed::Key(key) => print_line(key),
     }
@@ -92,7 +94,8 @@ fn print_field(number: i64) {
 }
 
 pub fn replay_unpack() {
-    let fields = fieldmap::unpack(next_u64());
+    let packing = next_packing();
+    let fields = fieldmap::unpack(next_u64(), packing);
     print(b"unpack ");
     print_field(fields.examination as i64);
     print_field(fields.eye as i64);

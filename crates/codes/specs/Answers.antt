@@ -6,6 +6,8 @@ use lib.Signed.{_≤ℤ_, _<ℤ_}
 use Rattle.format.specs.declared.Entry.{Entry}
 use Rattle.format.specs.declared.Bound.{Bound}
 use Rattle.format.specs.declared.Bound.the-variants.{Included, Excluded, Unbounded}
+use Rattle.format.specs.declared.Packing.{Packing}
+use Rattle.format.specs.declared.Packing.the-variants.{TwosComplement, Plus128}
 use Rattle.format.specs.declared.Found.{Found}
 use Rattle.format.specs.declared.Found.the-variants.{Entry as found, Nothing as nothing}
 use Rattle.format.specs.Refusal.{Answer, gives, refuses}
@@ -83,3 +85,8 @@ abbrev pub boundOf : ℕ → ℕ → Bound
 boundOf zero k = Included k
 boundOf (suc zero) k = Excluded k
 boundOf (suc (suc n)) k = Unbounded
+
+-- A packing by its number.
+abbrev pub packingOf : ℕ → Packing
+packingOf zero = TwosComplement
+packingOf (suc n) = Plus128

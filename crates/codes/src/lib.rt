@@ -1,12 +1,13 @@
-// Answers and bounds as numbers, for programs in C and Rust.
+// Answers, bounds and packings as numbers, for programs in C and Rust.
 use format::Bound;
 use format::CheckAnswer;
+use format::Packing;
 use format::Refusal;
 ghost use mathlib.Core.Path.{_≡_};
 ghost use Prim.Native.Nat.{ℕ, _<_, _^_};
 ghost use lib.IntN.{pos, negℤ};
 ghost use Rattle.format.specs.Refusal.{gives, checkOf, number};
-ghost use Rattle.codes.specs.Answers.{coded, boundOf};
+ghost use Rattle.codes.specs.Answers.{coded, boundOf, packingOf};
 
 // What is given, as an answer.
 pub fn given(n: usize) -> i64
@@ -45,4 +46,14 @@ pub fn bound(kind: u8, key: u64) -> Bound
         return Bound::Excluded(key);
     }
     Bound::Unbounded
+}
+
+// A packing by its number: 0 is two's complement, any other plus 128.
+pub fn packing(number: u8) -> Packing
+    ensures { λ r. ⌜ r ≡ packingOf number ⌝ }
+{
+    if number == 0 {
+        return Packing::TwosComplement;
+    }
+    Packing::Plus128
 }

@@ -9,6 +9,7 @@ use lib.Dec.{leb, lit<, lit≤}
 use borrow.Author.Tests.{leb-true}
 use lib.ListN.{length, replicate, length-replicate}
 use Rattle.format.specs.declared.Bound.{Bound}
+use Rattle.format.specs.declared.Packing.{Packing}
 use Rattle.format.specs.Layout.{Layout, Limits, layout32, standard, pointer}
 use Rattle.format.specs.Refusal.{Answer, gives, refuses}
 use Rattle.format.specs.Bytes.{AllBytes, AllWords}
@@ -60,16 +61,16 @@ module _ (L : Layout) (M : Limits) (s : List ℕ) (b : AllBytes s) where
             omega (arith, list-fits n (certified-accepts L M s n (ap counted ea)), select-few (matches lo hi) (list L M s))
         by (refused r) ea = absurd (given (sym e ∙ range-refuses L M s r (ap counted ea) lo hi ks vs))
 
-    module _ (exam eye : ℕ) (x y : ℤ) (m : Matched) (e : columnCall L M s exam eye x y ks vs ≡ gives m) where
-      no-column : (q : ℕ) → columnBounds exam eye x y ≡ refuses q → (a : Checked) → certify L M s ≡ a → ⊥
-      no-column q ec (accepted n t) ea = given (sym e ∙ column-refused L M s exam eye x y ks vs q ec n (ap counted ea))
-      no-column q ec (refused r) ea = given (sym e ∙ column-uncertified L M s exam eye x y ks vs r (ap counted ea))
+    module _ (P : Packing) (exam eye : ℕ) (x y : ℤ) (m : Matched) (e : columnCall L M s P exam eye x y ks vs ≡ gives m) where
+      no-column : (q : ℕ) → columnBounds P exam eye x y ≡ refuses q → (a : Checked) → certify L M s ≡ a → ⊥
+      no-column q ec (accepted n t) ea = given (sym e ∙ column-refused L M s P exam eye x y ks vs q ec n (ap counted ea))
+      no-column q ec (refused r) ea = given (sym e ∙ column-uncertified L M s P exam eye x y ks vs r (ap counted ea))
 
       pub column-fits : m .written < 256 ^ pointer L
-      column-fits = by (columnBounds exam eye x y) refl
+      column-fits = by (columnBounds P exam eye x y) refl
         where
-          by : (c : Answer Column) → columnBounds exam eye x y ≡ c → m .written < 256 ^ pointer L
-          by (gives c) ec = range-fits (c .lower) (c .upper) m (sym (column-ranges L M s exam eye x y ks vs c ec) ∙ e)
+          by : (c : Answer Column) → columnBounds P exam eye x y ≡ c → m .written < 256 ^ pointer L
+          by (gives c) ec = range-fits (c .lower) (c .upper) m (sym (column-ranges L M s P exam eye x y ks vs c ec) ∙ e)
           by (refuses q) ec = absurd (no-column q ec (certify L M s) refl)
 
 -- The archive that a build leaves is one that the check accepts.

@@ -6,7 +6,7 @@ use fieldmap::RangeAnswer;
 ghost use mathlib.Core.Path.{_≡_};
 ghost use Rattle.format.specs.Layout.{layout32, standard};
 ghost use Rattle.format.specs.Calls.{rangeCall, rangeKeys, rangeValues, columnCall, columnKeys, columnValues};
-ghost use Rattle.codes.specs.Answers.{coded, Tells, stored, boundOf, rangeWritten, rangeMatching};
+ghost use Rattle.codes.specs.Answers.{coded, Tells, stored, boundOf, packingOf, rangeWritten, rangeMatching};
 
 // Writes keys and values of the entries that meet both bounds until the shorter list is full, and stores how many there are. The number written.
 #[no_mangle]
@@ -47,12 +47,11 @@ pub extern "C" fn fieldmap_range(
     }
 }
 
-// The range of a column query, for one eye of one examination: where a and b are both from 0 on or both below 0, the entries with x from a to b; where a
-// is below 0 and b is not, none; where b is below 0 and a is not, those with x from a on and those with x up to b. It writes, stores and answers as a
-// range does.
+// The range of a column query, for one eye of one examination, by the packing of the archive's keys. It writes, stores and answers as a range does.
 #[no_mangle]
 pub extern "C" fn fieldmap_column(
     archive: &[u8],
+    packing: u8,
     examination: u32,
     eye: u8,
     a: i8,
@@ -62,17 +61,19 @@ pub extern "C" fn fieldmap_column(
     matching: &mut u64,
 ) -> i64
     ensures answer { λ r. ⌜ r ≡ coded rangeWritten
-        (columnCall layout32 standard (now (archive .entry)) examination eye a b (now (keys .entry)) (now (values .entry))) ⌝ }
-    ensures told { λ r. ⌜ Tells r (columnCall layout32 standard (now (archive .entry)) examination eye a b (now (keys .entry)) (now (values .entry))) ⌝ }
+        (columnCall layout32 standard (now (archive .entry)) (packingOf packing) examination eye a b (now (keys .entry)) (now (values .entry))) ⌝ }
+    ensures told { λ r. ⌜ Tells r
+        (columnCall layout32 standard (now (archive .entry)) (packingOf packing) examination eye a b (now (keys .entry)) (now (values .entry))) ⌝ }
     ensures keys { λ r. ⌜ now (keys .exit)
-        ≡ columnKeys layout32 standard (now (archive .entry)) examination eye a b (now (keys .entry)) (now (values .entry)) ⌝ }
+        ≡ columnKeys layout32 standard (now (archive .entry)) (packingOf packing) examination eye a b (now (keys .entry)) (now (values .entry)) ⌝ }
     ensures values { λ r. ⌜ now (values .exit)
-        ≡ columnValues layout32 standard (now (archive .entry)) examination eye a b (now (keys .entry)) (now (values .entry)) ⌝ }
+        ≡ columnValues layout32 standard (now (archive .entry)) (packingOf packing) examination eye a b (now (keys .entry)) (now (values .entry)) ⌝ }
     ensures matching { λ r. ⌜ now (matching .exit) ≡ stored rangeMatching
-        (columnCall layout32 standard (now (archive .entry)) examination eye a b (now (keys .entry)) (now (values .entry)))
+        (columnCall layout32 standard (now (archive .entry)) (packingOf packing) examination eye a b (now (keys .entry)) (now (values .entry)))
         (now (matching .entry)) ⌝ }
 {
-    match fieldmap::column(archive, examination, eye, a, b, keys, values) {
+    let by = codes::packing(packing);
+    match fieldmap::column(archive, by, examination, eye, a, b, keys, values) {
         RangeAnswer::Refused(why) => refused(why),
         RangeAnswer::Matched(written, all) => {
             *matching = all as u64;

@@ -14,6 +14,7 @@ use lib.Seq.{length-take-le}
 use Rattle.format.specs.declared.Entry.{Entry}
 use Rattle.format.specs.declared.Found.the-variants.{Entry as found, Nothing as nothing}
 use Rattle.format.specs.declared.Bound.{Bound}
+use Rattle.format.specs.declared.Packing.{Packing}
 use Rattle.format.specs.Layout.{layout32, standard}
 use Rattle.format.specs.Refusal.{Answer, gives, refuses, RefusesBy}
 use Rattle.format.specs.Bytes.{AllWords}
@@ -73,13 +74,13 @@ demand-1-check-refused s r e =
 
 pub record CertifyRefused (s : List ℕ) (r : ℕ) : Type 0 where
   pub range : (lo hi : Bound) (ks vs : List ℕ) → rangeCall layout32 standard s lo hi ks vs ≡ refuses r
-  pub column : (exam eye : ℕ) (a b : ℤ) (ks vs : List ℕ) → columnCall layout32 standard s exam eye a b ks vs ≡ refuses r
+  pub column : (P : Packing) (exam eye : ℕ) (a b : ℤ) (ks vs : List ℕ) → columnCall layout32 standard s P exam eye a b ks vs ≡ refuses r
 
 pub demand-1-certify-refused : (s : List ℕ) (r : ℕ) → counted (certify layout32 standard s) ≡ refuses r → CertifyRefused s r
 demand-1-certify-refused s r e =
     record {
       range = range-refuses layout32 standard s r e;
-      column = λ exam eye a b ks vs. column-uncertified layout32 standard s exam eye a b ks vs r e;
+      column = λ P exam eye a b ks vs. column-uncertified layout32 standard s P exam eye a b ks vs r e;
     }
 
 -- A lookup that refuses: only where check does, so by 1 to 7. The second form then returns the empty part, at the archive's start.
@@ -121,15 +122,15 @@ demand-1-range s lo hi ks vs r e =
     }
 
 -- A column query that refuses: where certify does, or by 18.
-pub record ColumnRefused (s : List ℕ) (exam eye : ℕ) (a b : ℤ) (ks vs : List ℕ) (r : ℕ) : Type 0 where
+pub record ColumnRefused (s : List ℕ) (P : Packing) (exam eye : ℕ) (a b : ℤ) (ks vs : List ℕ) (r : ℕ) : Type 0 where
   pub number : (counted (certify layout32 standard s) ≡ refuses r) ⊎ (r ≡ 18)
-  pub keys : columnKeys layout32 standard s exam eye a b ks vs ≡ ks
-  pub values : columnValues layout32 standard s exam eye a b ks vs ≡ vs
+  pub keys : columnKeys layout32 standard s P exam eye a b ks vs ≡ ks
+  pub values : columnValues layout32 standard s P exam eye a b ks vs ≡ vs
 
-pub demand-1-column : (s : List ℕ) (exam eye : ℕ) (a b : ℤ) (ks vs : List ℕ) (r : ℕ) → columnCall layout32 standard s exam eye a b ks vs ≡ refuses r
-    → ColumnRefused s exam eye a b ks vs r
-demand-1-column s exam eye a b ks vs r e =
-    let (n, kept) = column-refused-by layout32 standard s exam eye a b ks vs r e in
+pub demand-1-column : (s : List ℕ) (P : Packing) (exam eye : ℕ) (a b : ℤ) (ks vs : List ℕ) (r : ℕ)
+    → columnCall layout32 standard s P exam eye a b ks vs ≡ refuses r → ColumnRefused s P exam eye a b ks vs r
+demand-1-column s P exam eye a b ks vs r e =
+    let (n, kept) = column-refused-by layout32 standard s P exam eye a b ks vs r e in
     record { number = n; keys = kept .0; values = kept .1 }
 
 -- A build refuses only by 10 to 14, and leaves the output.
@@ -157,12 +158,12 @@ demand-1-absent-offset pos l = absent-by 31 pos (lit≤ tt) l
 pub demand-1-align : (pos alignment : ℕ) → RefusesBy 17 17 (alignStep pos alignment)
 demand-1-align pos alignment = align-by pos alignment
 
-pub demand-1-pack : (exam eye : ℕ) (x y : ℤ) (presentation : ℕ) → RefusesBy 18 18 (packKey exam eye x y presentation)
-demand-1-pack exam eye x y presentation = pack-by exam eye x y presentation
+pub demand-1-pack : (P : Packing) (exam eye : ℕ) (x y : ℤ) (presentation : ℕ) → RefusesBy 18 18 (packKey P exam eye x y presentation)
+demand-1-pack P exam eye x y presentation = pack-by P exam eye x y presentation
 
 -- Unpacking refuses nothing: every key has fields, and those pack to it again.
-pub demand-1-unpack : (k : ℕ) → k < 2 ^ 64 → let f = fieldsOf k in packKey (f .examination) (f .eye) (f .x) (f .y) (f .presentation) ≡ gives k
-demand-1-unpack k l = pack-unpack k l
+pub demand-1-unpack : (P : Packing) (k : ℕ) → k < 2 ^ 64 → let f = fieldsOf P k in packKey P (f .examination) (f .eye) (f .x) (f .y) (f .presentation) ≡ gives k
+demand-1-unpack P k l = pack-unpack P k l
 
 -- ---- demand 2: "they equal the crate's .. proved from its definitions". The definitions of check, lookup and walk are transliterations of the
 -- crate's `verify`, `get_key_value_raw` and `visit_raw`; the range and the builder are proved equal to theirs.

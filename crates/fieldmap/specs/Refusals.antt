@@ -12,6 +12,7 @@ use lib.Dec.{ltb, leb, eqb}
 use lib.Signed.{mag}
 use borrow.Author.Tests.{ltb-true, ltb-false}
 use Rattle.format.specs.declared.Bound.{Bound}
+use Rattle.format.specs.declared.Packing.{Packing}
 use Rattle.format.specs.Layout.{Layout, Limits}
 use Rattle.format.specs.Refusal.{Answer, gives, refuses, provided, andThen, RefusesBy}
 use Rattle.format.specs.RelPtr.{fitSigned, signedOffset, storedOffset, absentOffset}
@@ -83,15 +84,15 @@ align-by p a =
     by-provided (isAlignment a) 17 _ (omega arith) (omega arith)
     (by-provided (ltb (p + zerosTo a p) (2 ^ 64)) 17 _ (omega arith) (omega arith) (by-gives _))
 
-pub pack-by : (exam eye : ℕ) (x y : ℤ) (pres : ℕ) → RefusesBy 18 18 (packKey exam eye x y pres)
+pub pack-by : (P : Packing) (exam eye : ℕ) (x y : ℤ) (pres : ℕ) → RefusesBy 18 18 (packKey P exam eye x y pres)
 unfolding packKey
-pack-by exam eye x y pres =
+pack-by P exam eye x y pres =
     by-provided (ltb exam (2 ^ 24)) 18 _ (omega arith) (omega arith)
     (by-provided (ltb eye 2) 18 _ (omega arith) (omega arith) (by-provided (ltb pres (2 ^ 23)) 18 _ (omega arith) (omega arith) (by-gives _)))
 
-columns-by : (exam eye : ℕ) (a b : ℤ) → RefusesBy 18 18 (columnBounds exam eye a b)
+columns-by : (P : Packing) (exam eye : ℕ) (a b : ℤ) → RefusesBy 18 18 (columnBounds P exam eye a b)
 unfolding columnBounds
-columns-by exam eye a b =
+columns-by P exam eye a b =
     by-provided (ltb exam (2 ^ 24)) 18 _ (omega arith) (omega arith)
     (by-provided (ltb eye 2) 18 _ (omega arith) (omega arith) (by-gives _))
 
@@ -135,32 +136,32 @@ module _ (L : Layout) (M : Limits) (s : List ℕ) where
   range-refused lo hi ks vs = refused-first _ _ (λ n e. (_, range-certified L M s n e lo hi ks vs)) (λ q e. range-refuses L M s q e lo hi ks vs)
 
   -- The column query: certify's refusals, then 18; the lent lists stay.
-  module _ (exam eye : ℕ) (a b : ℤ) (ks vs : List ℕ) (r : ℕ) (e : columnCall L M s exam eye a b ks vs ≡ refuses r) where
+  module _ (P : Packing) (exam eye : ℕ) (a b : ℤ) (ks vs : List ℕ) (r : ℕ) (e : columnCall L M s P exam eye a b ks vs ≡ refuses r) where
     abbrev Number : Type 0
     Number = (counted (certify L M s) ≡ refuses r) ⊎ (r ≡ 18)
 
     abbrev Kept : Type 0
-    Kept = (columnKeys L M s exam eye a b ks vs ≡ ks) × (columnValues L M s exam eye a b ks vs ≡ vs)
+    Kept = (columnKeys L M s P exam eye a b ks vs ≡ ks) × (columnValues L M s P exam eye a b ks vs ≡ vs)
 
     pub column-refused-by : Number × Kept
-    column-refused-by = go (columnBounds exam eye a b) refl
+    column-refused-by = go (columnBounds P exam eye a b) refl
       where
-        no-bounds : (q : ℕ) → columnBounds exam eye a b ≡ refuses q → (c : Answer ℕ) → counted (certify L M s) ≡ c → Number
+        no-bounds : (q : ℕ) → columnBounds P exam eye a b ≡ refuses q → (c : Answer ℕ) → counted (certify L M s) ≡ c → Number
         no-bounds q eb (gives n) ec =
-            let z = columns-by exam eye a b q eb in
-            inr (omega (arith, same-number (sym (column-refused L M s exam eye a b ks vs q eb n ec) ∙ e)))
-        no-bounds q eb (refuses k) ec = inl (ec ∙ ap refuses (same-number (sym (column-uncertified L M s exam eye a b ks vs k ec) ∙ e)))
+            let z = columns-by P exam eye a b q eb in
+            inr (omega (arith, same-number (sym (column-refused L M s P exam eye a b ks vs q eb n ec) ∙ e)))
+        no-bounds q eb (refuses k) ec = inl (ec ∙ ap refuses (same-number (sym (column-uncertified L M s P exam eye a b ks vs k ec) ∙ e)))
 
-        go : (x : Answer Column) → columnBounds exam eye a b ≡ x → Number × Kept
+        go : (x : Answer Column) → columnBounds P exam eye a b ≡ x → Number × Kept
         go (gives c) eb =
-            let u = range-refused (c .lower) (c .upper) ks vs r (sym (column-ranges L M s exam eye a b ks vs c eb) ∙ e) in (
+            let u = range-refused (c .lower) (c .upper) ks vs r (sym (column-ranges L M s P exam eye a b ks vs c eb) ∙ e) in (
               inl u,
               (
-                column-keys-ranges L M s exam eye a b ks vs c eb ∙ range-keys-refuses L M s r u (c .lower) (c .upper) ks vs,
-                column-values-ranges L M s exam eye a b ks vs c eb ∙ range-values-refuses L M s r u (c .lower) (c .upper) ks vs,
+                column-keys-ranges L M s P exam eye a b ks vs c eb ∙ range-keys-refuses L M s r u (c .lower) (c .upper) ks vs,
+                column-values-ranges L M s P exam eye a b ks vs c eb ∙ range-values-refuses L M s r u (c .lower) (c .upper) ks vs,
               ),
             )
         go (refuses q) eb = (
           no-bounds q eb (counted (certify L M s)) refl,
-          (column-keys-refused L M s exam eye a b ks vs q eb, column-values-refused L M s exam eye a b ks vs q eb),
+          (column-keys-refused L M s P exam eye a b ks vs q eb, column-values-refused L M s P exam eye a b ks vs q eb),
         )

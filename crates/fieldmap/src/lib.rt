@@ -10,6 +10,7 @@ use format::CheckAnswer;
 use format::Entry;
 use format::Found;
 use format::Layout;
+use format::Packing;
 use format::Position;
 use format::Refusal;
 use perimetry::column::Columns;
@@ -167,10 +168,12 @@ pub fn range(
     }
 }
 
-// The range of a column query, for one eye of one examination. Where a and b are both from 0 on or both below 0, the entries with x from a to b; where
-// a is below 0 and b is not, none; where b is below 0 and a is not, those with x from a on and those with x up to b.
+// The range of a column query, for one eye of one examination, by the packing of the archive's keys. Of keys that store x plus 128, the entries with x
+// from a to b, and none if a is above b. Of keys in two's complement the same where a and b are both from 0 on or both below 0; where a is below 0 and
+// b is not, none; where b is below 0 and a is not, those with x from a on and those with x up to b.
 pub fn column(
     archive: &[u8],
+    packing: Packing,
     examination: u32,
     eye: u8,
     a: i8,
@@ -179,13 +182,13 @@ pub fn column(
     values: &mut [u64],
 ) -> RangeAnswer
     ensures answer { λ r. ⌜ rangeOf r
-        ≡ columnCall layout32 standard (now (archive .entry)) examination eye a b (now (keys .entry)) (now (values .entry)) ⌝ }
+        ≡ columnCall layout32 standard (now (archive .entry)) packing examination eye a b (now (keys .entry)) (now (values .entry)) ⌝ }
     ensures keys { λ r. ⌜ now (keys .exit)
-        ≡ columnKeys layout32 standard (now (archive .entry)) examination eye a b (now (keys .entry)) (now (values .entry)) ⌝ }
+        ≡ columnKeys layout32 standard (now (archive .entry)) packing examination eye a b (now (keys .entry)) (now (values .entry)) ⌝ }
     ensures values { λ r. ⌜ now (values .exit)
-        ≡ columnValues layout32 standard (now (archive .entry)) examination eye a b (now (keys .entry)) (now (values .entry)) ⌝ }
+        ≡ columnValues layout32 standard (now (archive .entry)) packing examination eye a b (now (keys .entry)) (now (values .entry)) ⌝ }
 {
-    match column_bounds(examination, eye, a, b) {
+    match column_bounds(packing, examination, eye, a, b) {
         Columns::Bounds(c) => {
             let lower = c.lower;
             let upper = c.upper;
@@ -243,16 +246,18 @@ pub fn align(pos: u64, alignment: u64) -> Aligned
     fields::ser::writer::align(pos, alignment)
 }
 
-pub fn pack(examination: u32, eye: u8, x: i8, y: i8, presentation: u32) -> Packed
-    ensures { λ r. ⌜ packedOf r ≡ packKey examination eye x y presentation ⌝ }
+// The key of an examination's fields.
+pub fn pack(packing: Packing, examination: u32, eye: u8, x: i8, y: i8, presentation: u32) -> Packed
+    ensures { λ r. ⌜ packedOf r ≡ packKey packing examination eye x y presentation ⌝ }
 {
-    perimetry::key::pack(examination, eye, x, y, presentation)
+    perimetry::key::pack(packing, examination, eye, x, y, presentation)
 }
 
-pub fn unpack(key: u64) -> KeyFields
-    ensures { λ r. ⌜ unpackedOf r ≡ fieldsOf key ⌝ }
+// The fields of a key, read by the packing that stored it.
+pub fn unpack(key: u64, packing: Packing) -> KeyFields
+    ensures { λ r. ⌜ unpackedOf r ≡ fieldsOf packing key ⌝ }
 {
-    perimetry::key::unpack(key)
+    perimetry::key::unpack(key, packing)
 }
 
 // Whether the stimulus of a value was seen.

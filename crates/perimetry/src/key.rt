@@ -1,6 +1,8 @@
-// Key packing: the fields of a key, most significant first, are examination 24 bits, eye 1, x 8, y 8 and presentation 23.
-use fields::twos::bits8;
-use fields::twos::signed8;
+// Key packing: the fields of a key, most significant first, are examination 24 bits, eye 1, x 8, y 8 and presentation 23. The packing says how x and y
+// stand in theirs.
+use crate::degrees::bits_of;
+use crate::degrees::degrees_of;
+use format::Packing;
 use format::Refusal;
 ghost use mathlib.Core.Path.{_≡_};
 ghost use Prim.Native.Nat.{_<_, _^_};
@@ -57,8 +59,8 @@ pub(crate) fn key_of(examination: u32, eye: u8, x: u8, y: u8, presentation: u32)
         + presentation as u64
 }
 
-pub fn pack(examination: u32, eye: u8, x: i8, y: i8, presentation: u32) -> Packed
-    ensures { λ r. ⌜ packedOf r ≡ packKey examination eye x y presentation ⌝ }
+pub fn pack(packing: Packing, examination: u32, eye: u8, x: i8, y: i8, presentation: u32) -> Packed
+    ensures { λ r. ⌜ packedOf r ≡ packKey packing examination eye x y presentation ⌝ }
 {
     if examination >= Count::EXAMINATIONS
         || eye >= Count::EYES
@@ -66,17 +68,23 @@ pub fn pack(examination: u32, eye: u8, x: i8, y: i8, presentation: u32) -> Packe
     {
         return Packed::Refused(Refusal::KeyFieldOverflow);
     }
-    Packed::Key(key_of(examination, eye, bits8(x), bits8(y), presentation))
+    Packed::Key(key_of(
+        examination,
+        eye,
+        bits_of(packing, x),
+        bits_of(packing, y),
+        presentation,
+    ))
 }
 
-pub fn unpack(key: u64) -> KeyFields
-    ensures { λ r. ⌜ unpackedOf r ≡ fieldsOf key ⌝ }
+pub fn unpack(key: u64, packing: Packing) -> KeyFields
+    ensures { λ r. ⌜ unpackedOf r ≡ fieldsOf packing key ⌝ }
 {
     KeyFields {
         examination: (key >> LowestBit::EXAMINATION) as u32,
         eye: ((key >> LowestBit::EYE) % 2) as u8,
-        x: signed8(((key >> LowestBit::X) % 256) as u8),
-        y: signed8(((key >> LowestBit::Y) % 256) as u8),
+        x: degrees_of(packing, ((key >> LowestBit::X) % 256) as u8),
+        y: degrees_of(packing, ((key >> LowestBit::Y) % 256) as u8),
         presentation: (key % Count::PRESENTATIONS as u64) as u32,
     }
 }

@@ -3,7 +3,7 @@
 use core::ops::RangeBounds;
 
 use crate::archive::PASSED;
-use crate::{Archive, Entry, Matched, Refusal, Walked};
+use crate::{Archive, Entry, Matched, Packing, Refusal, Walked};
 
 /// A certified archive: its keys strictly ascend and no node is hollow.
 ///
@@ -218,34 +218,35 @@ impl<'a> Certified<'a> {
         crate::range(self.bytes(), bounds, keys, values).expect(PASSED)
     }
 
-    /// The points of one eye of one examination with x in a range of degrees. [`column`](crate::column()) says what a range on both sides of 0
-    /// gives.
+    /// The points of one eye of one examination with x in a range of degrees, the keys being of the named packing. [`column`](crate::column())
+    /// says what a range on both sides of 0 gives by [`Packing::TwosComplement`].
     ///
     /// # Errors
     ///
     /// 18, where the examination or the eye does not fit its field.
     ///
     /// ```
-    /// use fieldmap::{Certified, Key};
+    /// use fieldmap::{Certified, Key, Packing::Plus128};
     ///
     /// let key = Key { examination: 1, eye: Key::LEFT, x: -15, y: 3, presentation: 0 };
     /// let mut bytes = [0; 104];
-    /// fieldmap::build(&mut bytes, 0, &[key.pack()?], &[9])?;
+    /// fieldmap::build(&mut bytes, 0, &[key.pack(Plus128)?], &[9])?;
     /// let certified = Certified::certify(&bytes)?;
     /// let (mut keys, mut values) = ([0; 1], [0; 1]);
-    /// let matched = certified.column(1, Key::LEFT, -20..=-10, &mut keys, &mut values)?;
-    /// assert_eq!((matched.written, Key::from(keys[0])), (1, key));
+    /// let matched = certified.column(Plus128, 1, Key::LEFT, -20..=20, &mut keys, &mut values)?;
+    /// assert_eq!((matched.written, Key::unpack(keys[0], Plus128)), (1, key));
     /// # Ok::<(), fieldmap::Refusal>(())
     /// ```
     pub fn column(
         self,
+        packing: Packing,
         examination: u32,
         eye: u8,
         x: impl RangeBounds<i8>,
         keys: &mut [u64],
         values: &mut [u64],
     ) -> Result<Matched, Refusal> {
-        crate::column(self.bytes(), examination, eye, x, keys, values)
+        crate::column(self.bytes(), packing, examination, eye, x, keys, values)
     }
 }
 

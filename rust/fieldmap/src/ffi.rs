@@ -59,6 +59,7 @@ extern "C" {
     fn fieldmap_column(
         archive: *const u8,
         archive_len: usize,
+        packing: u8,
         examination: u32,
         eye: u8,
         a: i8,
@@ -91,6 +92,7 @@ extern "C" {
     fn fieldmap_align(pos: u64, alignment: u64, next: *mut u64, zeros: *mut u64) -> i64;
 
     fn fieldmap_pack(
+        packing: u8,
         examination: u32,
         eye: u8,
         x: i8,
@@ -101,6 +103,7 @@ extern "C" {
 
     fn fieldmap_unpack(
         key: u64,
+        packing: u8,
         examination: *mut u32,
         eye: *mut u8,
         x: *mut i8,
@@ -193,11 +196,11 @@ pub fn range(
     }
 }
 
-/// The two ends of x pass as a pair.
+/// The examination and its eye pass as a pair, and so do the two ends of x.
 pub fn column(
     archive: &[u8],
-    examination: u32,
-    eye: u8,
+    packing: u8,
+    (examination, eye): (u32, u8),
     (a, b): (i8, i8),
     keys: &mut [u64],
     values: &mut [u64],
@@ -208,6 +211,7 @@ pub fn column(
         fieldmap_column(
             archive.as_ptr(),
             archive.len(),
+            packing,
             examination,
             eye,
             a,
@@ -261,20 +265,26 @@ pub fn align(pos: u64, alignment: u64, next: &mut u64, zeros: &mut u64) -> i64 {
     unsafe { fieldmap_align(pos, alignment, next, zeros) }
 }
 
-pub fn pack(examination: u32, eye: u8, (x, y): (i8, i8), presentation: u32, key: &mut u64) -> i64 {
+pub fn pack(
+    packing: u8,
+    (examination, eye): (u32, u8),
+    (x, y): (i8, i8),
+    presentation: u32,
+    key: &mut u64,
+) -> i64 {
     // SAFETY: as above.
-    unsafe { fieldmap_pack(examination, eye, x, y, presentation, key) }
+    unsafe { fieldmap_pack(packing, examination, eye, x, y, presentation, key) }
 }
 
 pub fn unpack(
     key: u64,
-    examination: &mut u32,
-    eye: &mut u8,
+    packing: u8,
+    (examination, eye): (&mut u32, &mut u8),
     (x, y): (&mut i8, &mut i8),
     presentation: &mut u32,
 ) -> i64 {
     // SAFETY: as above.
-    unsafe { fieldmap_unpack(key, examination, eye, x, y, presentation) }
+    unsafe { fieldmap_unpack(key, packing, examination, eye, x, y, presentation) }
 }
 
 pub fn seen(value: u64) -> i64 {

@@ -24,6 +24,12 @@
 //! node. On a certified archive a lookup gives exactly the entry of the walk with that key, or that there is none. On an archive that is only
 //! accepted it gives what rkyv's search finds, which can miss an entry that the walk shows.
 //!
+//! # Two packings of keys
+//!
+//! Of the fields of a key, x and y stand in two's complement in old archives and as the degrees plus 128 in new examinations. Nothing stored
+//! says which, so each call that reads or writes fields takes a [`Packing`]. On new keys a [column query](column()) gives exactly the points
+//! with x from a to b. The others take keys as numbers, and for the same numbers the same bytes are built, whatever they stand for.
+//!
 //! # The check on every call
 //!
 //! Every reader runs the check first, [`range`] and [`column`](column()) certification, on every call. [`Archive`] and [`Certified`] say in a type that
@@ -51,6 +57,7 @@ mod ffi;
 mod key;
 #[cfg(feature = "alloc")]
 mod owned;
+mod packing;
 mod parts;
 mod ranges;
 mod readers;
@@ -63,6 +70,7 @@ pub use certified::Certified;
 pub use key::Key;
 #[cfg(feature = "alloc")]
 pub use owned::archive_of;
+pub use packing::Packing;
 pub use parts::{absent_offset, align, offset32, signed_offset, Aligned};
 pub use ranges::{column, range, Matched};
 pub use readers::{certify, check, lookup, lookup_bytes, lookup_many, walk, Entry, Walked};

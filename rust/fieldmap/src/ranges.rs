@@ -5,6 +5,7 @@ use core::ops::{Bound, RangeBounds};
 
 use crate::ffi;
 use crate::refusal::{answer, Refusal};
+use crate::Packing;
 
 /// What a range answers.
 #[must_use]
@@ -46,10 +47,14 @@ pub fn range(
     matched(code, matching)
 }
 
-/// The range of a column query: the points of one eye of one examination with x in a range of degrees. It writes and answers as [`range`]
-/// does.
+/// The range of a column query: the points of one eye of one examination with x in a range of degrees, in an archive whose keys are of the
+/// named packing. It writes and answers as [`range`] does.
 ///
-/// Keys are ordered by the bits of x, in which -128 to -1 come after 0 to 127. So `a..=b` gives:
+/// By [`Packing::Plus128`] keys are ordered by x as a number, and any range of `i8` gives exactly the points whose x is in it: `-9..=9` those
+/// from -9 to 9, `-9..` those from -9 on, `..` all points of the eye. Where no x is in the range, as in `3..3` or where a is above b in
+/// `a..=b`, nothing matches.
+///
+/// By [`Packing::TwosComplement`] they are ordered by the bits of x, in which -128 to -1 come after 0 to 127. So `a..=b` gives:
 ///
 /// | a and b | entries |
 /// |---|---|
@@ -57,54 +62,77 @@ pub fn range(
 /// | a below 0, b from 0 on | nothing; ask from a to -1 and from 0 to b |
 /// | a from 0 on, b below 0 | the points with x from a on and those with x up to b |
 ///
-/// A range with an end that is excluded or open gives what `a..=b` does, a and b being the first and the last x in it: `-9..0` is `-9..=-1`,
-/// `5..` is `5..=127`, and `-9..` is `-9..=127`, which gives nothing. Where no x is in such a range, as in `3..3`, `0..0` or past 127, nothing
-/// matches, nor does anything in a range `a..=b`, a up to b, that has been iterated to its end. `a..=b` with a from 0 on and b below 0 holds no x
-/// either, but is the last row of the table. `..` gives all points of the eye.
+/// There a range with an end that is excluded or open gives what `a..=b` does, a and b being the first and the last x in it: `-9..0` is
+/// `-9..=-1`, `5..` is `5..=127`, and `-9..` is `-9..=127`, which gives nothing. Where no x is in such a range, as in `3..3`, `0..0` or past
+/// 127, nothing matches, nor does anything in a range `a..=b`, a up to b, that has been iterated to its end. `a..=b` with a from 0 on and b
+/// below 0 holds no x either, but is the last row of the table. `..` gives all points of the eye.
 ///
 /// # Errors
 ///
 /// The first fault of 1 to 9, then 18, where the examination or the eye does not fit its field.
 ///
 /// ```
-/// use fieldmap::{column, Key};
+/// use fieldmap::{column, Key, Packing::{Plus128, TwosComplement}};
 ///
-/// let at = |x| Key { examination: 1, eye: Key::RIGHT, x, y: 3, presentation: 0 }.pack();
-/// let given = [at(3)?, at(9)?, at(-9)?, at(-3)?];
-/// let mut archive = [0; 104];
-/// fieldmap::build(&mut archive, 0, &given, &[1, 2, 3, 4])?;
+/// let at = |x, packing| Key { examination: 1, eye: Key::RIGHT, x, y: 3, presentation: 0 }.pack(packing);
+/// let (mut archive, mut keys, mut values) = ([0; 104], [0; 4], [0; 4]);
 ///
-/// let (mut keys, mut values) = ([0; 4], [0; 4]);
-/// let matched = column(&archive, 1, Key::RIGHT, -9..0, &mut keys, &mut values)?;
-/// assert_eq!((matched.matching, values), (2, [3, 4, 0, 0]));
+/// // New keys ascend from left to right.
+/// let new = [at(-9, Plus128)?, at(-3, Plus128)?, at(3, Plus128)?, at(9, Plus128)?];
+/// fieldmap::build(&mut archive, 0, &new, &[1, 2, 3, 4])?;
+/// let matched = column(&archive, Plus128, 1, Key::RIGHT, -3..=3, &mut keys, &mut values)?;
+/// assert_eq!((matched.matching, values), (2, [2, 3, 0, 0]));
 ///
-/// // Across 0 in one query there is nothing; `..` gives all.
-/// assert_eq!(column(&archive, 1, Key::RIGHT, -9..=9, &mut keys, &mut values)?.matching, 0);
-/// assert_eq!(column(&archive, 1, Key::RIGHT, .., &mut keys, &mut values)?.matching, 4);
+/// // Of old keys one query across 0 gives nothing, and `..` gives all.
+/// let old = [at(3, TwosComplement)?, at(9, TwosComplement)?, at(-9, TwosComplement)?, at(-3, TwosComplement)?];
+/// fieldmap::build(&mut archive, 0, &old, &[3, 4, 1, 2])?;
+/// let matched = column(&archive, TwosComplement, 1, Key::RIGHT, -3..=3, &mut keys, &mut values)?;
+/// assert_eq!(matched.matching, 0);
+/// let matched = column(&archive, TwosComplement, 1, Key::RIGHT, .., &mut keys, &mut values)?;
+/// assert_eq!((matched.matching, values), (4, [3, 4, 1, 2]));
 /// # Ok::<(), fieldmap::Refusal>(())
 /// ```
 pub fn column(
     archive: &[u8],
+    packing: Packing,
     examination: u32,
     eye: u8,
     x: impl RangeBounds<i8>,
     keys: &mut [u64],
     values: &mut [u64],
 ) -> Result<Matched, Refusal> {
-    let ends = ends(x.start_bound(), x.end_bound());
+    let ends = ends(packing, x.start_bound(), x.end_bound());
     let mut matching = 0;
-    let code = ffi::column(archive, examination, eye, ends, keys, values, &mut matching);
+    let code = ffi::column(
+        archive,
+        packing as u8,
+        (examination, eye),
+        ends,
+        keys,
+        values,
+        &mut matching,
+    );
     matched(code, matching)
 }
 
 /// Ends between which the library finds nothing. A query that can match nothing passes them, and is refused as any other.
-const NOTHING: (i8, i8) = (-1, 0);
+fn nothing(packing: Packing) -> (i8, i8) {
+    match packing {
+        Packing::TwosComplement => (-1, 0),
+        Packing::Plus128 => (0, -1),
+    }
+}
 
 /// Ends between which the library finds every x.
-const EVERYTHING: (i8, i8) = (0, -1);
+fn everything(packing: Packing) -> (i8, i8) {
+    match packing {
+        Packing::TwosComplement => (0, -1),
+        Packing::Plus128 => (i8::MIN, i8::MAX),
+    }
+}
 
 /// The ends that pass to the library, which takes both as included.
-fn ends(start: Bound<&i8>, end: Bound<&i8>) -> (i8, i8) {
+fn ends(packing: Packing, start: Bound<&i8>, end: Bound<&i8>) -> (i8, i8) {
     let a = match start {
         Included(&a) => i16::from(a),
         Excluded(&a) => i16::from(a) + 1,
@@ -117,8 +145,8 @@ fn ends(start: Bound<&i8>, end: Bound<&i8>) -> (i8, i8) {
     };
     match (start, end) {
         (Included(&a), Included(&b)) => (a, b),
-        (Unbounded, Unbounded) => EVERYTHING,
-        _ if a > b => NOTHING,
+        (Unbounded, Unbounded) => everything(packing),
+        _ if a > b => nothing(packing),
         _ => (a as i8, b as i8),
     }
 }

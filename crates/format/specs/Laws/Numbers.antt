@@ -1,5 +1,9 @@
+pub mod Tests
 pub mod Bytes
 pub mod Signed
 pub mod RelPtr
 pub mod Align
+pub mod Degrees
 pub mod Key
+pub mod Column
+pub mod Packings

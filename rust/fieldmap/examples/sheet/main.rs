@@ -1,5 +1,6 @@
-//! `sheet FILE EXAMINATION EYE` draws one eye's field of an examination as perimeters print it, in SVG on standard output. EYE is `right` or
-//! `left`, or 0 or 1 as keys have it.
+//! `sheet FILE PACKING EXAMINATION EYE` draws one eye's field of an examination as perimeters print it, in SVG on standard output. PACKING is how
+//! x and y stand in the archive's keys, `twos-complement` or `plus-128`, which the archive does not say. EYE is `right` or `left`, or 0 or 1 as
+//! keys have it.
 //!
 //! Each point shows its threshold in whole decibels, halves rounded up, on a grey tone, the darker the lower; a point that was not seen is black
 //! and shows `<0`. Where a point was presented several times, the latest presentation counts: the one with the highest number. The dashed line
@@ -19,12 +20,12 @@ use std::path::Path;
 use std::process::ExitCode;
 use std::{env, fs};
 
-use fieldmap::Key;
+use fieldmap::{Key, Packing};
 
 fn main() -> ExitCode {
     let arguments: Vec<OsString> = env::args_os().skip(1).collect();
-    let Some((file, examination, eye)) = asked(&arguments) else {
-        eprintln!("usage: sheet FILE EXAMINATION right|left > sheet.svg");
+    let Some((file, packing, examination, eye)) = asked(&arguments) else {
+        eprintln!("usage: sheet FILE twos-complement|plus-128 EXAMINATION right|left > sheet.svg");
         return ExitCode::from(2);
     };
     let bytes = match fs::read(file) {
@@ -34,7 +35,7 @@ fn main() -> ExitCode {
             return ExitCode::from(2);
         }
     };
-    let (svg, code) = match field::points(&bytes, examination, eye) {
+    let (svg, code) = match field::points(&bytes, packing, examination, eye) {
         Ok(points) => (picture::map(examination, eye, &points), ExitCode::SUCCESS),
         Err(reason) => {
             eprintln!("{}: {}", file.display(), reason.join(" "));
@@ -50,10 +51,15 @@ fn main() -> ExitCode {
     }
 }
 
-/// The file, the examination and the eye that the arguments name.
-fn asked(arguments: &[OsString]) -> Option<(&Path, u32, u8)> {
-    let [file, examination, eye] = arguments else {
+/// The file, the packing, the examination and the eye that the arguments name.
+fn asked(arguments: &[OsString]) -> Option<(&Path, Packing, u32, u8)> {
+    let [file, packing, examination, eye] = arguments else {
         return None;
+    };
+    let packing = match packing.to_str()? {
+        "twos-complement" => Packing::TwosComplement,
+        "plus-128" => Packing::Plus128,
+        _ => return None,
     };
     let examination = examination.to_str()?.parse().ok()?;
     let eye = match eye.to_str()? {
@@ -61,5 +67,5 @@ fn asked(arguments: &[OsString]) -> Option<(&Path, u32, u8)> {
         "left" | "1" => Key::LEFT,
         _ => return None,
     };
-    Some((Path::new(file), examination, eye))
+    Some((Path::new(file), packing, examination, eye))
 }

@@ -4,6 +4,7 @@ use std::ops::Bound::{Excluded, Included, Unbounded};
 
 use crate::by_hand::{nested, root_leaf};
 use crate::given::{built, BEFORE};
+use fieldmap::Packing::TwosComplement;
 use fieldmap::{Aligned, Entry, Key, Matched, Refusal};
 
 fn i32_at(bytes: &[u8], position: usize) -> i32 {
@@ -143,10 +144,11 @@ fn case_9_packing() {
         y: 3,
         presentation: 2,
     };
-    assert_eq!(key.pack(), Ok(1_642_850_156_546));
-    assert_eq!(Key::unpack(1_642_850_156_546), key);
+    assert_eq!(key.pack(TwosComplement), Ok(1_642_850_156_546));
+    assert_eq!(Key::unpack(1_642_850_156_546, TwosComplement), key);
     for number in [0, 1, u64::MAX, 1 << 39, 0x0123_4567_89ab_cdef] {
-        assert_eq!(Key::unpack(number).pack(), Ok(number));
+        let fields = Key::unpack(number, TwosComplement);
+        assert_eq!(fields.pack(TwosComplement), Ok(number));
     }
 }
 

@@ -1,7 +1,7 @@
-//! The refusals and the limits, against those of `include/fieldmap.h`.
+//! The refusals, the packings and the limits, against those of `include/fieldmap.h`.
 
 use crate::repository;
-use fieldmap::{NoSuchRefusal, Refusal};
+use fieldmap::{NoSuchRefusal, Packing, Refusal};
 
 fn header() -> String {
     String::from_utf8(repository::bytes("include/fieldmap.h")).unwrap()
@@ -52,6 +52,27 @@ fn numbers() {
         assert_eq!(
             digits.into_iter().next(),
             Some(&*refusal.number().to_string())
+        );
+    }
+}
+
+#[test]
+fn packings() {
+    let header = header();
+    let (_, rest) = header.split_once("/* The packings").unwrap();
+    let (list, _) = rest.split_once("};").unwrap();
+    let numbers = between(list, "FIELDMAP_", " = ");
+    let named = [
+        ("TWOS_COMPLEMENT", Packing::TwosComplement),
+        ("PLUS_128", Packing::Plus128),
+    ];
+    assert_eq!(numbers.len(), named.len());
+    for ((name, number), (expected, packing)) in numbers.into_iter().zip(named) {
+        assert_eq!(name, expected);
+        let digits = number.split(|letter: char| !letter.is_ascii_digit());
+        assert_eq!(
+            digits.into_iter().next(),
+            Some(&*(packing as u8).to_string())
         );
     }
 }

@@ -1,9 +1,18 @@
-//! Keys and values: their fields, their order and their conversions.
+//! Keys and values: their fields, the packings, the order of keys and the conversions of values.
 
-use fieldmap::{Key, Refusal, Value};
+use fieldmap::Packing::{Plus128, TwosComplement};
+use fieldmap::{Key, Packing, Refusal, Value};
+
+const PACKINGS: [Packing; 2] = [TwosComplement, Plus128];
 
 #[test]
 fn refusal_18() {
+    for packing in PACKINGS {
+        refused_by_18(packing);
+    }
+}
+
+fn refused_by_18(packing: Packing) {
     let key = Key {
         examination: (1 << 24) - 1,
         eye: Key::LEFT,
@@ -11,20 +20,58 @@ fn refusal_18() {
         y: i8::MAX,
         presentation: (1 << 23) - 1,
     };
-    assert_eq!(key.pack().map(Key::unpack), Ok(key));
+    let packed = key.pack(packing).unwrap();
+    assert_eq!(Key::unpack(packed, packing), key);
     let refused = Err(Refusal::KeyFieldOverflow);
     let examination = 1 << 24;
-    assert_eq!(Key { examination, ..key }.pack(), refused);
-    assert_eq!(Key { eye: 2, ..key }.pack(), refused);
+    assert_eq!(Key { examination, ..key }.pack(packing), refused);
+    assert_eq!(Key { eye: 2, ..key }.pack(packing), refused);
     let presentation = 1 << 23;
-    assert_eq!(
-        Key {
-            presentation,
-            ..key
+    let late = Key {
+        presentation,
+        ..key
+    };
+    assert_eq!(late.pack(packing), refused);
+}
+
+/// At every x and y both packings give back what they are given, and the two keys differ in the highest bits of x and of y.
+#[test]
+fn both_packings_at_every_point() {
+    for x in i8::MIN..=i8::MAX {
+        for y in i8::MIN..=i8::MAX {
+            let key = Key {
+                examination: 0x0012_3456,
+                eye: Key::LEFT,
+                x,
+                y,
+                presentation: 0x0065_4321,
+            };
+            let [old, new] = PACKINGS.map(|packing| key.pack(packing).unwrap());
+            assert_eq!(Key::unpack(old, TwosComplement), key);
+            assert_eq!(Key::unpack(new, Plus128), key);
+            assert_eq!(old ^ new, 1 << 38 | 1 << 30, "{x} and {y}");
+            let (by_x, by_y) = (new >> 31 & 0xff, new >> 23 & 0xff);
+            assert_eq!((by_x as i16, by_y as i16), (x as i16 + 128, y as i16 + 128));
         }
-        .pack(),
-        refused
-    );
+    }
+}
+
+/// Every number is a key by each packing.
+#[test]
+fn every_number_comes_back() {
+    for number in [0, 1, 1_642_850_156_546, 1_369_045_991_426, u64::MAX] {
+        for packing in PACKINGS {
+            assert_eq!(Key::unpack(number, packing).pack(packing), Ok(number));
+        }
+    }
+    assert_eq!(Key::default(), Key::unpack(0, TwosComplement));
+    let (x, y) = (-128, -128);
+    let least = Key {
+        x,
+        y,
+        ..Key::default()
+    };
+    assert_eq!(Key::unpack(0, Plus128), least);
 }
 
 #[test]
@@ -37,7 +84,7 @@ fn value_bits() {
 }
 
 /// Keys with every combination of small, large and negative fields, in the order of their packed numbers.
-fn keys_in_archive_order() -> Vec<Key> {
+fn keys_in_archive_order(packing: Packing) -> Vec<Key> {
     let mut numbers = Vec::new();
     for examination in [0, 1, (1 << 24) - 1] {
         for eye in [Key::RIGHT, Key::LEFT] {
@@ -50,65 +97,82 @@ fn keys_in_archive_order() -> Vec<Key> {
                         y,
                         presentation,
                     };
-                    numbers.push(key.pack().unwrap());
+                    numbers.push(key.pack(packing).unwrap());
                 }
             }
         }
     }
     numbers.sort_unstable();
-    numbers.into_iter().map(Key::unpack).collect()
+    let keys = numbers.into_iter().map(|key| Key::unpack(key, packing));
+    keys.collect()
 }
 
 #[test]
 fn sorted_keys_build() {
-    let ordered = keys_in_archive_order();
-    let mut sorted = ordered.clone();
-    sorted.reverse();
-    sorted.sort_unstable();
-    assert_eq!(sorted, ordered);
-    let keys: Vec<u64> = sorted.iter().map(|key| key.pack().unwrap()).collect();
-    let mut out = vec![0; fieldmap::build_length(keys.len(), 0).unwrap()];
-    assert_eq!(fieldmap::build(&mut out, 0, &keys, &keys), Ok(out.len()));
-    assert_eq!(fieldmap::certify(&out), Ok(108));
+    for packing in PACKINGS {
+        let ordered = keys_in_archive_order(packing);
+        let mut sorted = ordered.clone();
+        sorted.reverse();
+        sorted.sort_unstable_by(|a, b| packing.compare(a, b));
+        assert_eq!(sorted, ordered);
+        let packed = sorted.iter().map(|key| key.pack(packing).unwrap());
+        let keys: Vec<u64> = packed.collect();
+        let mut out = vec![0; fieldmap::build_length(keys.len(), 0).unwrap()];
+        assert_eq!(fieldmap::build(&mut out, 0, &keys, &keys), Ok(out.len()));
+        assert_eq!(fieldmap::certify(&out), Ok(108));
+    }
 }
 
 #[test]
 fn order_is_that_of_packed_numbers() {
-    let ordered = keys_in_archive_order();
-    for (index, key) in ordered.iter().enumerate() {
-        for (other_index, other) in ordered.iter().enumerate() {
-            assert_eq!(key.cmp(other), index.cmp(&other_index), "{key} and {other}");
-            assert_eq!(key.partial_cmp(other), Some(key.cmp(other)));
+    for packing in PACKINGS {
+        let ordered = keys_in_archive_order(packing);
+        for (index, key) in ordered.iter().enumerate() {
+            for (other_index, other) in ordered.iter().enumerate() {
+                let order = packing.compare(key, other);
+                assert_eq!(order, index.cmp(&other_index), "{key} and {other}");
+            }
         }
+        // Keys that do not pack are ordered as well, and equal only to themselves.
+        let key = Key::default();
+        let large = Key {
+            examination: u32::MAX,
+            ..key
+        };
+        assert!(ordered
+            .iter()
+            .all(|other| packing.compare(&large, other).is_gt()));
+        let [one, two] = [1, 2].map(|eye| Key { eye, ..key });
+        assert!(packing.compare(&two, &one).is_gt());
+        assert!(packing.compare(&two, &two).is_eq());
     }
-    // Keys that do not pack are ordered as well, and equal only to themselves.
-    let key = Key::default();
-    let large = Key {
-        examination: u32::MAX,
-        ..key
-    };
-    assert!(ordered.iter().all(|other| large > *other));
-    assert!(Key { eye: 2, ..key } > Key { eye: 1, ..key });
 }
 
+/// x counts before y, and each as a number or by its bits.
 #[test]
-fn conversions_of_keys() {
-    for number in [0, 1, 1_642_850_156_546, u64::MAX] {
-        let key = Key::from(number);
-        assert_eq!(key, Key::unpack(number));
-        assert_eq!(u64::try_from(key), Ok(number));
-    }
-    let refused = u64::try_from(Key {
-        eye: 2,
+fn order_of_every_x_and_every_y() {
+    let at = |x, y| Key {
+        x,
+        y,
         ..Key::default()
-    });
-    assert_eq!(refused, Err(Refusal::KeyFieldOverflow));
-    assert_eq!(Key::default(), Key::from(0));
+    };
+    for one in i8::MIN..=i8::MAX {
+        for other in i8::MIN..=i8::MAX {
+            let orders = [one.cmp(&other), (one as u8).cmp(&(other as u8))];
+            for (packing, order) in [Plus128, TwosComplement].into_iter().zip(orders) {
+                let by_y = packing.compare(&at(5, one), &at(5, other));
+                assert_eq!(by_y, order, "y {one} and {other}");
+                let by_x = packing.compare(&at(one, other), &at(other, one));
+                assert_eq!(by_x, order, "x {one} and {other}");
+            }
+        }
+    }
 }
 
 #[test]
 fn keys_in_words() {
-    let key = Key::from(1_642_850_156_546);
+    let key = Key::unpack(1_369_045_991_426, Plus128);
+    assert_eq!(key, Key::unpack(1_642_850_156_546, TwosComplement));
     let words = "examination 1, right eye, x -3, y 3, presentation 2";
     assert_eq!(key.to_string(), words);
     let left = Key { eye: 1, ..key }.to_string();

@@ -2,7 +2,7 @@
 
 use crate::by_hand::root_leaf;
 use crate::repository;
-use fieldmap::{Archive, Certified, Refusal};
+use fieldmap::{Archive, Certified, Packing, Refusal};
 
 const BEFORE: u64 = 0x5555_5555_5555_5555;
 
@@ -115,8 +115,11 @@ fn lists_of_no_places() {
     let mut keys = [BEFORE; 2];
     assert_eq!(certified.range(2.., &mut keys, &mut []).matching, 1);
     assert_eq!(keys, [BEFORE; 2]);
-    let matched = certified.column(0, 0, .., &mut [], &mut []).unwrap();
-    assert_eq!((matched.written, matched.matching), (0, 2));
+    for packing in [Packing::TwosComplement, Packing::Plus128] {
+        let matched = certified.column(packing, 0, 0, .., &mut [], &mut []);
+        assert_eq!(matched.map(|matched| matched.matching), Ok(2));
+        assert_eq!(matched.map(|matched| matched.written), Ok(0));
+    }
     assert_eq!(
         fieldmap::build(&mut [], 0, &[], &[]),
         Err(Refusal::OutputTooShort)

@@ -1,6 +1,7 @@
 //! Each refusal, by every call that can give it, and what was lent afterwards.
 
 use crate::by_hand::{nested, root_leaf, Output};
+use fieldmap::Packing::{Plus128, TwosComplement};
 use fieldmap::Refusal;
 
 const BEFORE: u64 = 0x5555_5555_5555_5555;
@@ -13,8 +14,13 @@ fn refused(archive: &[u8], by_check: Option<u8>, by_certify: u8) {
     let (mut keys, mut values) = ([BEFORE; 7], [BEFORE; 9]);
     let answer = fieldmap::range(archive, .., &mut keys, &mut values);
     assert_eq!(answer.map_err(number), Err(by_certify));
-    for eye in [0, 2] {
-        let answer = fieldmap::column(archive, 0, eye, 0..=1, &mut keys, &mut values);
+    for (packing, eye) in [
+        (TwosComplement, 0),
+        (TwosComplement, 2),
+        (Plus128, 0),
+        (Plus128, 2),
+    ] {
+        let answer = fieldmap::column(archive, packing, 0, eye, 0..=1, &mut keys, &mut values);
         assert_eq!(answer.map_err(number), Err(by_certify), "before 18");
     }
     if let Some(by_check) = by_check {

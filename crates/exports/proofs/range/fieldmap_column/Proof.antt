@@ -17,15 +17,16 @@ given-requires c κs =
     let told : tie.After-written = search in
     let known : tie.After-shared-slice-known = search in
     let e = sym (call .column .ensures .0) ∙ ap rangeOf (told .written .given .1) in
-    omega (arith, column-fits layout32 standard _ (λ i. known .shared-slice-known .given i .fits) _ _ _ _ _ _ _ e)
+    omega (arith, column-fits layout32 standard _ (λ i. known .shared-slice-known .given i .fits) _ _ _ _ _ _ _ _ e)
 
 returns : tie.Need-returns
 returns c =
     let start : tie.Start = search in
+    let by : tie.After-packing = search in
     let call : tie.After-column = search in
     let (answer, lists) = call .column .ensures in
     let e = sym answer ∙ ap rangeOf (c .before .before .why .given .1) in
-    rw (sym (toZ-ofZ (start .fits .a)), sym (toZ-ofZ (start .fits .b)))
+    rw (sym (by .packing .ensures), sym (toZ-ofZ (start .fits .a)), sym (toZ-ofZ (start .fits .b)))
     (answers-refused rangeWritten (c .before .before .why .given .0 .0) e (c .refused .ok) (c .refused .ensures)
     (lists .0, (lists .1, store-refused rangeMatching _ e)))
 
@@ -33,16 +34,18 @@ returns-2 : tie.Need-returns-2
 returns-2 c =
     let told : tie.After-written = search in
     let start : tie.Start = search in
+    let by : tie.After-packing = search in
     let call : tie.After-column = search in
     let (answer, lists) = call .column .ensures in
     let e = sym answer ∙ ap rangeOf (told .written .given .1) in
-    rw (sym (toZ-ofZ (start .fits .a)), sym (toZ-ofZ (start .fits .b)))
+    rw (sym (by .packing .ensures), sym (toZ-ofZ (start .fits .a)), sym (toZ-ofZ (start .fits .b)))
     (answers-given rangeWritten e (returned (c .given .ok) (c .given .ensures)) (lists .0, (lists .1, store-given rangeMatching _ e)))
 
 pub fieldmap-column-spec : {M : Type 1} → statement M
 fieldmap-column-spec =
     tie.close
     (tie.spec
+    (λ c κs. search needs)
     (λ c κs. search needs)
     (search needs)
     (λ c κs. search needs)

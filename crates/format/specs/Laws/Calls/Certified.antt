@@ -1,25 +1,32 @@
 -- From the answer of certify to what range and column answer, and that certified bytes are accepted ones whose keys ascend and whose nodes are not
 -- hollow. Assumes nothing.
-use Prim.Native.Nat.{ℕ, _-_}
+use Prim.Native.Nat.{ℕ, _-_, _^_, _<_}
 use mathlib.Core.Path.{_≡_, refl, sym, _∙_, ap, subst}
 use mathlib.Core.List.{List, []}
 use mathlib.Core.Logic.{_↔_}
+use mathlib.Core.Bool.{Bool}
 use lib.ListN.{length}
 use lib.IntN.{ℤ}
 use Rattle.format.specs.declared.Entry.{Entry}
 use Rattle.format.specs.declared.Bound.{Bound}
+use Rattle.format.specs.declared.Bound.the-variants.{Included}
+use Rattle.format.specs.declared.Packing.{Packing}
 use Rattle.format.specs.Layout.{Layout, recordSize, Limits, nested}
 use Rattle.format.specs.Refusal.{gives, refuses}
 use Rattle.format.specs.RelPtr.{at, target}
-use Rattle.format.specs.Key.{Column, columnBounds}
+use Rattle.format.specs.Key.{Degrees, keyOf, bitsOf, Column, columnBounds}
 use Rattle.format.specs.Check.{Checked, accepted, refused, counted, checkArchive}
 use Rattle.format.specs.Entries.{listAt, list}
 use Rattle.format.specs.Certify.{Ascending, Solid, certify}
 use Rattle.format.specs.Range.{matches, select, range}
+use Rattle.format.specs.Column.{column}
 use Rattle.format.specs.Written.{written, keysAfter, valuesAfter, Out, out, walked}
 use Rattle.format.specs.Calls.{rangeCall, rangeKeys, rangeValues, columnCall, columnKeys, columnValues}
 use Rattle.format.specs.Accepted.{Certified}
 use Rattle.format.specs.Laws.Certify.Certified.{certified, certify-accepts, exactly}
+use Rattle.format.specs.Laws.Numbers.Key.{column-given}
+use Rattle.format.specs.Laws.Numbers.Column.{between-column}
+use Rattle.format.specs.Laws.Range.List.{matches-both}
 use Rattle.format.specs.Laws.Read.Written.{none-walked}
 use Rattle.format.specs.Laws.Calls.Accepted.{gives-inv, refuses-inv, empty, list-root}
 
@@ -131,37 +138,67 @@ module _ (L : Layout) (M : Limits) (s : List ℕ) where
 
   -- ---- a column query, by what the bounds and certify answer
 
-  module _ (exam eye : ℕ) (a b : ℤ) (ks vs : List ℕ) where
-    pub column-uncertified : (r : ℕ) → counted (certify L M s) ≡ refuses r → columnCall L M s exam eye a b ks vs ≡ refuses r
+  module _ (P : Packing) (exam eye : ℕ) (a b : ℤ) (ks vs : List ℕ) where
+    pub column-uncertified : (r : ℕ) → counted (certify L M s) ≡ refuses r → columnCall L M s P exam eye a b ks vs ≡ refuses r
     unfolding columnCall
     column-uncertified r u = rw (refuses-inv (certify L M s) r u, columnCall)
 
-    module _ (c : Column) (e : columnBounds exam eye a b ≡ gives c) where
-      pub column-ranges : columnCall L M s exam eye a b ks vs ≡ rangeCall L M s (c .lower) (c .upper) ks vs
+    module _ (c : Column) (e : columnBounds P exam eye a b ≡ gives c) where
+      pub column-ranges : columnCall L M s P exam eye a b ks vs ≡ rangeCall L M s (c .lower) (c .upper) ks vs
       unfolding columnCall
       column-ranges = by (certify L M s) refl
         where
-          by : (x : Checked) → certify L M s ≡ x → columnCall L M s exam eye a b ks vs ≡ rangeCall L M s (c .lower) (c .upper) ks vs
+          by : (x : Checked) → certify L M s ≡ x → columnCall L M s P exam eye a b ks vs ≡ rangeCall L M s (c .lower) (c .upper) ks vs
           by (accepted n t) ex = rw (ex, columnCall, e)
           by (refused r) ex = rw (ex, columnCall) (sym (range-refuses r (ap counted ex) (c .lower) (c .upper) ks vs))
 
-      pub column-keys-ranges : columnKeys L M s exam eye a b ks vs ≡ rangeKeys L M s (c .lower) (c .upper) ks vs
+      pub column-keys-ranges : columnKeys L M s P exam eye a b ks vs ≡ rangeKeys L M s (c .lower) (c .upper) ks vs
       unfolding columnKeys
       column-keys-ranges = rw (e, columnKeys)
 
-      pub column-values-ranges : columnValues L M s exam eye a b ks vs ≡ rangeValues L M s (c .lower) (c .upper) ks vs
+      pub column-values-ranges : columnValues L M s P exam eye a b ks vs ≡ rangeValues L M s (c .lower) (c .upper) ks vs
       unfolding columnValues
       column-values-ranges = rw (e, columnValues)
 
-    module _ (q : ℕ) (e : columnBounds exam eye a b ≡ refuses q) where
-      pub column-refused : (n : ℕ) → counted (certify L M s) ≡ gives n → columnCall L M s exam eye a b ks vs ≡ refuses q
+    module _ (q : ℕ) (e : columnBounds P exam eye a b ≡ refuses q) where
+      pub column-refused : (n : ℕ) → counted (certify L M s) ≡ gives n → columnCall L M s P exam eye a b ks vs ≡ refuses q
       unfolding columnCall
       column-refused n u = rw (gives-inv (certify L M s) n u .1, columnCall, e)
 
-      pub column-keys-refused : columnKeys L M s exam eye a b ks vs ≡ ks
+      pub column-keys-refused : columnKeys L M s P exam eye a b ks vs ≡ ks
       unfolding columnKeys
       column-keys-refused = rw (e, columnKeys)
 
-      pub column-values-refused : columnValues L M s exam eye a b ks vs ≡ vs
+      pub column-values-refused : columnValues L M s P exam eye a b ks vs ≡ vs
       unfolding columnValues
       column-values-refused = rw (e, columnValues)
+
+    -- On certified bytes the entries are those of the column, by the fields of their keys.
+    module _ (n : ℕ) (u : counted (certify L M s) ≡ gives n) (h₁ : exam < 2 ^ 24) (h₂ : eye < 2) (ha : Degrees a) (hb : Degrees b) where
+      abbrev bounds : Column
+      bounds = record { lower = Included (keyOf exam eye (bitsOf P a) 0 0); upper = Included (keyOf exam eye (bitsOf P b) (2 ^ 8 - 1) (2 ^ 23 - 1)) }
+
+      bounded : columnBounds P exam eye a b ≡ gives bounds
+      bounded = column-given P exam eye a b _ _ h₁ h₂ refl refl
+
+      column-range : range L M s (bounds .lower) (bounds .upper) ≡ column L M s P exam eye a b
+      unfolding range
+      column-range =
+          ap (λ (t : Entry → Bool). select t (list L M s))
+          (λ j e. (matches-both (bounds .lower) (bounds .upper) e ∙ between-column P exam eye a b h₁ h₂ ha hb e) j)
+
+      pub column-certified : columnCall L M s P exam eye a b ks vs
+          ≡ gives (record { written = written (column L M s P exam eye a b) ks vs; matching = length (column L M s P exam eye a b) })
+      column-certified =
+          column-ranges bounds bounded ∙ range-certified n u (bounds .lower) (bounds .upper) ks vs
+          ∙ ap (λ (es : List Entry). gives (record { written = written es ks vs; matching = length es })) column-range
+
+      pub column-keys-certified : columnKeys L M s P exam eye a b ks vs ≡ keysAfter (column L M s P exam eye a b) ks vs
+      column-keys-certified =
+          column-keys-ranges bounds bounded ∙ range-keys-certified n u (bounds .lower) (bounds .upper) ks vs
+          ∙ ap (λ (es : List Entry). keysAfter es ks vs) column-range
+
+      pub column-values-certified : columnValues L M s P exam eye a b ks vs ≡ valuesAfter (column L M s P exam eye a b) ks vs
+      column-values-certified =
+          column-values-ranges bounds bounded ∙ range-values-certified n u (bounds .lower) (bounds .upper) ks vs
+          ∙ ap (λ (es : List Entry). valuesAfter es ks vs) column-range

@@ -25,14 +25,12 @@ use Rattle.format.specs.Range.{keyMeetsLower, keyMeetsUpper, matches, se
 use Rattle.format.specs.Readable.{childAt}
 use Rattle.format.specs.Laws.Certify.Ascend.{Under}
 use Rattle.format.specs.Laws.Check.Reach.{true≢false}
+use Rattle.format.specs.Laws.Numbers.Tests.{same-test}
 use Rattle.format.specs.Laws.Numbers.Bytes.{leAt-lt}
+use Rattle.format.specs.Laws.Range.List.{matches-both, select-none}
 use Rattle.format.specs.Laws.Read.Children.{onChild, list-child}
 
 -- ---- each bound as a number
-
-same-test : (x y : Bool) → (x ≡ true → y ≡ true) → (x ≡ false → y ≡ false) → x ≡ y
-same-test true y t f = sym (t refl)
-same-test false y t f = sym (f refl)
 
 lower-least : (lo : Bound) (k : ℕ) → keyMeetsLower lo k ≡ leb (leastOf lo) k
 lower-least (Included b) k = refl
@@ -188,17 +186,12 @@ module _ (L : Layout) (s : List ℕ) (b : AllBytes s) where
 -- ---- what is selected
 
 pub none-held : (es : List Entry) → select (held Nothing) es ≡ []
-none-held [] = refl
-none-held (x ∷ es) = none-held es
+none-held = select-none (held Nothing) (λ e. refl)
 
 module _ (lo hi : Bound) where
   -- As `ends-hold`, of an entry.
   ends-matches : (e : Entry) → e .key < 2 ^ 64 → held (endsOf lo hi) e ≡ matches lo hi e
-  ends-matches e h = ends-hold lo hi (e .key) h ∙ by (keyMeetsLower lo (e .key)) refl
-    where
-      by : (b : Bool) → keyMeetsLower lo (e .key) ≡ b → (keyMeetsLower lo (e .key) && keyMeetsUpper hi (e .key)) ≡ matches lo hi e
-      by true m = rw (m, matches)
-      by false m = rw (m, matches)
+  ends-matches e h = ends-hold lo hi (e .key) h ∙ sym (matches-both lo hi e)
 
   select-ends : (es : List Entry) → Under (2 ^ 64) es → select (matches lo hi) es ≡ select (held (endsOf lo hi)) es
   select-ends [] u = refl

@@ -1,8 +1,9 @@
 -- Ranges of an ascending list: the entries that match are those from the first that meets the lower bound on, before the first past the upper
 -- bound. Assumes nothing.
 use Prim.Native.Nat.{ℕ, _<_, _≤_}
-use mathlib.Core.Path.{_≡_, refl, ap}
-use mathlib.Core.Bool.{Bool, true, false, not}
+use mathlib.Core.Path.{_≡_, refl, sym, ap, subst}
+use mathlib.Core.Bool.{Bool, true, false, not, _&&_}
+use mathlib.Core.Logic.{_↔_}
 use mathlib.Core.List.{List, [], _∷_, _++_}
 use native.Mathlib.Omega.{arith}
 use lib.ListN.{length}
@@ -11,7 +12,8 @@ use Rattle.format.specs.declared.Entry.{Entry}
 use Rattle.format.specs.declared.Bound.{Bound}
 use Rattle.format.specs.declared.Bound.the-variants.{Included, Excluded, Unbounded}
 use Rattle.format.specs.Certify.{Above, Ascending}
-use Rattle.format.specs.Range.{meetsLower, meetsUpper, matches, select, crosses}
+use Rattle.format.specs.Range.{keyMeetsLower, keyMeetsUpper, meetsLower, meetsUpper, matches, select, crosses}
+use Rattle.format.specs.Lookup.{In, first, later}
 use Rattle.format.specs.Laws.Certify.Ascend.{Under}
 use Rattle.format.specs.Laws.Check.Reach.{true≢false}
 
@@ -99,6 +101,14 @@ module _ (f : Entry → Bool) (k : ℕ) where
   select-above h (x ∷ l) a = rw (h x (a .0), select) (select-above h l (a .1))
 
 module _ (lo hi : Bound) where
+  -- An entry matches if its key meets the one bound and the other.
+  pub matches-both : (e : Entry) → matches lo hi e ≡ (keyMeetsLower lo (e .key) && keyMeetsUpper hi (e .key))
+  matches-both e = by (keyMeetsLower lo (e .key)) refl
+    where
+      by : (b : Bool) → keyMeetsLower lo (e .key) ≡ b → matches lo hi e ≡ (keyMeetsLower lo (e .key) && keyMeetsUpper hi (e .key))
+      by true m = rw (m, matches)
+      by false m = rw (m, matches)
+
   pub matches-none : (e : Entry) → (meetsLower lo e ≡ true → meetsUpper hi e ≡ false) → matches lo hi e ≡ false
   matches-none e k = by (meetsLower lo e) refl
     where
@@ -177,3 +187,31 @@ select-few f (e ∷ es) = by (f e) refl (select-few f es)
     by : (b : Bool) → f e ≡ b → length (select f es) ≤ length es → length (select f (e ∷ es)) ≤ length (e ∷ es)
     by true eb ih = rw (eb, select) (omega arith)
     by false eb ih = rw (eb, select) (omega arith)
+
+-- ---- what is selected: the entries of the list that pass, and those only
+
+module _ (f : Entry → Bool) where
+  pub select-none : ((e : Entry) → f e ≡ false) → (l : List Entry) → select f l ≡ []
+  select-none h [] = refl
+  select-none h (x ∷ l) = rw (h x, select) (select-none h l)
+
+  one-passes : (b : Bool) (x e : Entry) (l : List Entry) → f x ≡ b → (In e (select f l) → In e l × (f e ≡ true))
+      → In e (elim b [ true ↦ x ∷ select f l | false ↦ select f l ]) → In e (x ∷ l) × (f e ≡ true)
+  one-passes true x e l eb ih first = (first, eb)
+  one-passes true x e l eb ih (later i) = let (j, t) = ih i in (later j, t)
+  one-passes false x e l eb ih i = let (j, t) = ih i in (later j, t)
+
+  selected-passes : (e : Entry) (l : List Entry) → In e (select f l) → In e l × (f e ≡ true)
+  selected-passes e [] i = elim i [ ]
+  selected-passes e (x ∷ l) i = one-passes (f x) x e l refl (selected-passes e l) i
+
+  passing-selected : (e : Entry) (l : List Entry) → In e l → f e ≡ true → In e (select f l)
+  passing-selected e (x ∷ l) first t = subst (λ (b : Bool). In e (elim b [ true ↦ e ∷ select f l | false ↦ select f l ])) (sym t) first
+  passing-selected e (x ∷ l) (later i) t = by (f x) (passing-selected e l i t)
+    where
+      by : (b : Bool) → In e (select f l) → In e (elim b [ true ↦ x ∷ select f l | false ↦ select f l ])
+      by true j = later j
+      by false j = j
+
+  pub select-exactly : (e : Entry) (l : List Entry) → In e (select f l) ↔ (In e l × (f e ≡ true))
+  select-exactly e l = (selected-passes e l, λ h. passing-selected e l (h .0) (h .1))

@@ -15,8 +15,8 @@ returns c = ⊎-elim (λ t. search laws) (⊎-elim (λ t. search laws) (λ t. se
 returns-2 : tie.Need-returns-2
 returns-2 c =
     let start : tie.Start = search in
-    rw (c .key-of .ensures, c .before .bits82 .ensures, c .before .before .bits8 .ensures, toZ-ofZ (start .fits .x), toZ-ofZ (start .fits .y))
-    (sym (pack-given _ _ (start .args .x) (start .args .y) _ (search needs) (search needs) (search needs)))
+    rw (c .key-of .ensures, c .before .bits-of2 .ensures, c .before .before .bits-of .ensures, toZ-ofZ (start .fits .x), toZ-ofZ (start .fits .y))
+    (sym (pack-given _ _ _ (start .args .x) (start .args .y) _ (search needs) (search needs) (search needs)))
 
 pub pack-spec : {M : Type 1} → statement M
 pack-spec = tie.close (tie.spec returns (search needs) (search needs) (λ c κs. search needs) returns-2)

@@ -8,10 +8,10 @@ use Rattle.perimetry.proofs.key.unpack.Tie as tie
 returns : tie.Need-returns
 returns c =
     rw (
-      toZ-ofZ {w = w8} (sfits-of (c .before .signed8 .ok)),
-      toZ-ofZ {w = w8} (sfits-of (c .signed82 .ok)),
-      c .before .signed8 .ensures,
-      c .signed82 .ensures,
+      toZ-ofZ {w = w8} (sfits-of (c .before .degrees-of .ok)),
+      toZ-ofZ {w = w8} (sfits-of (c .degrees-of2 .ok)),
+      c .before .degrees-of .ensures,
+      c .degrees-of2 .ensures,
     )
 
 pub unpack-spec : {M : Type 1} → statement M
