@@ -1,5 +1,5 @@
 -- Ranges of an ascending list: the entries that match are those from the first that meets the lower bound on, before the first past the upper
--- bound. Assumes nothing.
+-- bound. What a selection by any test has. Assumes nothing.
 use Prim.Native.Nat.{ℕ, _<_, _≤_}
 use mathlib.Core.Path.{_≡_, refl, sym, ap, subst}
 use mathlib.Core.Bool.{Bool, true, false, not, _&&_}
