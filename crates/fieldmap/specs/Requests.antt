@@ -87,7 +87,8 @@ answers : (s : List ℕ) (P : Packing) (exam eye : ℕ) (a b : ℤ) → Asked s 
     → Answers s P exam eye a b es
 answers s P exam eye a b q es e =
     subst (Answers s P exam eye a b) e (record {
-      answer = λ ks vs. column-certified layout32 standard s P exam eye a b ks vs (q .count) (q .certified) (q .exam-fits) (q .eye-fits) (q .a-fits) (q .b-fits);
+      answer = λ ks vs.
+          column-certified layout32 standard s P exam eye a b ks vs (q .count) (q .certified) (q .exam-fits) (q .eye-fits) (q .a-fits) (q .b-fits);
       keys = λ ks vs.
           column-keys-certified layout32 standard s P exam eye a b ks vs (q .count) (q .certified) (q .exam-fits) (q .eye-fits) (q .a-fits) (q .b-fits);
       values = λ ks vs.
@@ -99,7 +100,7 @@ pub n5-old-across : (s : List ℕ) (exam eye : ℕ) (a b : ℤ) → Asked s exam
     → Answers s TwosComplement exam eye a b []
 n5-old-across s exam eye a b q p r = answers s TwosComplement exam eye a b q [] (old-across layout32 standard s exam eye a b p r)
 
--- "because two's complement puts -3 above 3": old keys with x below 0 stand behind those with x from 0 on, in every walk and every answer.
+-- "because two's complement puts -3 above 3": of one eye, old keys with x below 0 are above those with x from 0 on, so where keys ascend they come later.
 pub n5-old-order : (exam eye k l : ℕ) → OfEye exam eye (fieldsOf TwosComplement k) → OfEye exam eye (fieldsOf TwosComplement l)
     → nonNeg (fieldsOf TwosComplement k .x) ≡ true → nonNeg (fieldsOf TwosComplement l .x) ≡ false → k < l
 n5-old-order exam eye k l ok ol p q = below-0-behind exam eye k l ok ol p q
