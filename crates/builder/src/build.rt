@@ -1,6 +1,7 @@
 // The build of an archive from keys and values: its refusals, the zeros behind the header, the nodes and the record.
 use crate::size::end_of;
 use crate::size::start_of;
+use format::Common;
 use format::Layout;
 use format::Refusal;
 use nodes::inline_vec::ChildPos;
@@ -43,7 +44,7 @@ fn build_none(out: &mut [u8], header: usize)
     requires { ⌜ (header ≤ 4096) × (endOf 0 header ≤ length (now out)) ⌝ }
     ensures { λ _. ⌜ now (out .exit) ≡ put (now (out .entry)) header (behind layout32 header noneB 0) ⌝ }
 {
-    let at = start_of(header, Layout::RECORD_ALIGN);
+    let at = start_of(header, Common::RECORD_ALIGN);
     put_zeros(out, header, at);
     let none = ChildPos(0);
     resolve_from_len(out, at, none, 0);

@@ -2,6 +2,7 @@
 use fields::least::least;
 use fields::ser::writer::Aligned;
 use fields::ser::writer::align;
+use format::Common;
 use format::Layout;
 use serialize::height::depth_of;
 use serialize::height::power_of_6;
@@ -23,7 +24,7 @@ fn needed(t: usize, each: usize) -> usize
 struct Full;
 
 impl Full {
-    const BELOW: usize = Layout::ENTRIES * Layout::CHILDREN;
+    const BELOW: usize = Common::ENTRIES * Common::CHILDREN;
 }
 
 // The bytes of a subtree with l levels above the last one, which takes at most m entries. Over the last level stand p nodes, of which as many
@@ -36,13 +37,13 @@ fn weight_of(l: usize, m: usize) -> usize
         if m == 0 {
             return 0;
         }
-        return Layout::LEAF;
+        return Common::LEAF;
     }
     let p = power_of_6(l - 1);
     let t = least(m, Full::BELOW * p);
-    let leaves = needed(t, Layout::ENTRIES);
+    let leaves = needed(t, Common::ENTRIES);
     let inners = needed(t, Full::BELOW);
-    Layout::LEAF * (leaves + (p - inners)) + Layout::INNER * (inners + (p - 1) / Layout::ENTRIES)
+    Common::LEAF * (leaves + (p - inners)) + Common::INNER * (inners + (p - 1) / Common::ENTRIES)
 }
 
 // The first position on an alignment, from the header's end on.
@@ -62,9 +63,9 @@ pub(crate) fn end_of(n: usize, header: usize) -> usize
     ensures { λ r. ⌜ r ≡ endOf n header ⌝ }
 {
     if n == 0 {
-        return start_of(header, Layout::RECORD_ALIGN) + Layout::RECORD;
+        return start_of(header, Common::RECORD_ALIGN) + Common::RECORD;
     }
     let d = depth_of(n);
     let p = power_of_6(d);
-    start_of(header, Layout::NODE_ALIGN) + weight_of(d, n - (p - 1)) + Layout::RECORD
+    start_of(header, Layout::NODE_ALIGN) + weight_of(d, n - (p - 1)) + Common::RECORD
 }

@@ -1,16 +1,17 @@
 -- What the code's tests of an offset tell, and where an offset leads by its bits. Assumes nothing.
-use mathlib.Core.Path.{_≡_, sym, ap, _∙_}
+use mathlib.Core.Path.{_≡_, ap, _∙_}
 use mathlib.Core.Bool.{true, false}
 use Prim.Native.Nat.{ℕ, suc, _+_, _-_, _^_, _≤_, _<_}
+use native.Mathlib.Nat.{pow-suc}
 use native.Mathlib.Omega.{arith}
 use borrow.Author.Tests.{ltb-true, ltb-false}
 use lib.IntN.{ℤ, pos, negsuc, _+ℤ_}
 use lib.Signed.{mag, ltZ}
 use lib.Pow.{pow-pos}
 use Rattle.format.specs.Refusal.{refuses}
-use Rattle.format.specs.Signed.{twos, ofTwos}
+use Rattle.format.specs.Signed.{ofTwos}
 use Rattle.format.specs.RelPtr.{fitSigned, at, below, position}
-use Rattle.format.specs.Laws.Numbers.Signed.{twos-lt, ofTwos-low, ofTwos-high, ofTwos-twos}
+use Rattle.format.specs.Laws.Numbers.Signed.{ofTwos-low, ofTwos-high}
 use Rattle.format.specs.Laws.Numbers.RelPtr.{leads-on, leads-back, leads-below, fits-refused}
 
 -- The two tests: below the least number of h + 1 bits, and above the greatest.
@@ -26,19 +27,26 @@ pub in-range : (h : ℕ) (z : ℤ) → ltZ z (negsuc (2 ^ h - 1)) ≡ false → 
 in-range h (pos n) e f = omega (arith, ltb-false (2 ^ h - 1) n f, pow-pos h)
 in-range h (negsuc n) e f = omega (arith, ltb-false (2 ^ h - 1) n e, pow-pos h)
 
--- ---- where the offset z leads from p, by its bits b
+-- ---- where the offset of the bits b leads from p, by what b lacks of the bits of -1
 
-module _ (h p b : ℕ) (z : ℤ) (f : mag z < 2 ^ h) (e : b ≡ twos h z) where
-  value : z ≡ ofTwos h b
-  value = sym (ofTwos-twos h z f) ∙ ap (ofTwos h) (sym e)
+rest : (t b : ℕ) → t - suc b ≡ t - 1 - b
+rest t b = omega arith
 
-  pub bits-on : b < 2 ^ h → position (pos p +ℤ z) ≡ at (p + b)
-  bits-on l = leads-on p b z (value ∙ ofTwos-low h b l)
+less-one : (p x : ℕ) → p - x - 1 ≡ p - 1 - x
+less-one p x = omega arith
 
-  pub bits-below : 2 ^ h ≤ b → p < 2 ^ suc h - b → position (pos p +ℤ z) ≡ below
-  bits-below g l = leads-below p (2 ^ suc h - suc b) z (value ∙ ofTwos-high h b g) (omega arith)
+module _ (h p b : ℕ) (l : b < 2 ^ suc h) where
+  pub leads-ahead : b ≤ 2 ^ suc h - 1 - b → position (pos p +ℤ ofTwos h b) ≡ at (p + b)
+  leads-ahead g = let e = pow-suc 2 h in leads-on p b (ofTwos h b) (ofTwos-low h b (omega arith))
 
-  pub bits-back : 2 ^ h ≤ b → 2 ^ suc h - b ≤ p → position (pos p +ℤ z) ≡ at (p - (2 ^ suc h - b))
-  bits-back g l =
-      let k = twos-lt h z f in
-      leads-back p (2 ^ suc h - suc b) z (value ∙ ofTwos-high h b g) (omega arith) ∙ ap at (omega arith)
+  module _ (g : 2 ^ suc h - 1 - b < b) where
+    high : 2 ^ h ≤ b
+    high = let e = pow-suc 2 h in omega arith
+
+    pub leads-before : p ≤ 2 ^ suc h - 1 - b → position (pos p +ℤ ofTwos h b) ≡ below
+    leads-before k = leads-below p (2 ^ suc h - suc b) (ofTwos h b) (ofTwos-high h b high) (omega arith)
+
+    pub leads-behind : 2 ^ suc h - 1 - b < p → position (pos p +ℤ ofTwos h b) ≡ at (p - 1 - (2 ^ suc h - 1 - b))
+    leads-behind k =
+        leads-back p (2 ^ suc h - suc b) (ofTwos h b) (ofTwos-high h b high) (omega arith)
+        ∙ ap (λ (x : ℕ). at (p - x - 1)) (rest (2 ^ suc h) b) ∙ ap at (less-one p (2 ^ suc h - 1 - b))

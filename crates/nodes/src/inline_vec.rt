@@ -1,5 +1,5 @@
 // The open nodes of the builder (rkyv's src/util/inline_vec.rs): at most five entries in an array of fixed length.
-use format::Layout;
+use format::Common;
 ghost use mathlib.Core.Path.{_≡_};
 ghost use Prim.Native.Nat.{_<_};
 ghost use Rattle.nodes.specs.Nodes.{newLeaf, newInner, pushLeaf, pushInner};
@@ -23,7 +23,7 @@ pub struct Slot {
 
 // The entries from `len` on are zero, so a closed node has no other bytes.
 pub struct OpenLeaf {
-    pub entries: [Pair; Layout::ENTRIES],
+    pub entries: [Pair; Common::ENTRIES],
     pub len: usize,
 }
 
@@ -33,7 +33,7 @@ impl OpenLeaf {
     {
         let none = Pair { key: 0, value: 0 };
         Self {
-            entries: [none; Layout::ENTRIES],
+            entries: [none; Common::ENTRIES],
             len: 0,
         }
     }
@@ -51,7 +51,7 @@ impl OpenLeaf {
 
 // The slots from `len` on are zero.
 pub struct OpenInner {
-    pub slots: [Slot; Layout::ENTRIES],
+    pub slots: [Slot; Common::ENTRIES],
     pub len: usize,
 }
 
@@ -65,7 +65,7 @@ impl OpenInner {
             lesser: ChildPos(0),
         };
         Self {
-            slots: [none; Layout::ENTRIES],
+            slots: [none; Common::ENTRIES],
             len: 0,
         }
     }

@@ -10,6 +10,7 @@ use fields::rel_ptr::Stored;
 use fields::rel_ptr::absent_offset;
 use fields::rel_ptr::offset32;
 use fields::twos::bits32;
+use format::Common;
 use format::Layout;
 ghost use mathlib.Core.Path.{_≡_};
 ghost use Prim.Native.Nat.{_+_, _≤_};
@@ -67,15 +68,15 @@ pub fn close_leaf(out: &mut [u8], pos: usize, leaf: OpenLeaf) -> usize
     put_five(out, pos + Layout::KEYS, a.key, b.key, c.key, d.key, e.key);
     put_five(
         out,
-        pos + Layout::VALUES,
+        pos + Common::VALUES,
         a.value,
         b.value,
         c.value,
         d.value,
         e.value,
     );
-    put_u64(out, pos + Layout::NODE, n);
-    pos + Layout::LEAF
+    put_u64(out, pos + Common::NODE, n);
+    pos + Common::LEAF
 }
 
 // An inner node with its greater child, closed at `pos`: where the next node goes.
@@ -94,19 +95,19 @@ pub fn close_inner(out: &mut [u8], pos: usize, node: OpenInner, greater: ChildPo
     put_five(out, pos + Layout::KEYS, a.key, b.key, c.key, d.key, e.key);
     put_five(
         out,
-        pos + Layout::VALUES,
+        pos + Common::VALUES,
         a.value,
         b.value,
         c.value,
         d.value,
         e.value,
     );
-    let fa = pos + Layout::NODE;
-    let fb = fa + Layout::POINTER;
-    let fc = fb + Layout::POINTER;
-    let fd = fc + Layout::POINTER;
-    let fe = fd + Layout::POINTER;
-    let fg = fe + Layout::POINTER;
+    let fa = pos + Common::NODE;
+    let fb = fa + Common::POINTER;
+    let fc = fb + Common::POINTER;
+    let fd = fc + Common::POINTER;
+    let fe = fd + Common::POINTER;
+    let fg = fe + Common::POINTER;
     let ao = lesser_bits(fa, a, 0, n);
     let bo = lesser_bits(fb, b, 1, n);
     let co = lesser_bits(fc, c, 2, n);
@@ -114,5 +115,5 @@ pub fn close_inner(out: &mut [u8], pos: usize, node: OpenInner, greater: ChildPo
     let eo = lesser_bits(fe, e, 4, n);
     let go = offset_bits(fg, greater);
     put_six(out, fa, ao, bo, co, dp, eo, go);
-    pos + Layout::INNER
+    pos + Common::INNER
 }

@@ -1,5 +1,5 @@
 // The levels of a tree by the number of entries (rkyv's `entries_to_height` in src/collections/btree/map/mod.rs).
-use format::Layout;
+use format::Common;
 ghost use mathlib.Core.Path.{_≡_};
 ghost use Prim.Native.Nat.{_-_, _^_, _≤_};
 ghost use Rattle.format.specs.Layout.{layout32};
@@ -12,8 +12,8 @@ pub fn depth_of(n: usize) -> usize
 {
     let mut m = n;
     let mut d: usize = 0;
-    while Layout::CHILDREN <= m {
-        m = m / Layout::CHILDREN;
+    while Common::CHILDREN <= m {
+        m = m / Common::CHILDREN;
         d += 1;
     }
     d
@@ -23,15 +23,15 @@ pub fn depth_of(n: usize) -> usize
 struct Power;
 
 impl Power {
-    const FIRST: usize = Layout::CHILDREN;
+    const FIRST: usize = Common::CHILDREN;
 
-    const SECOND: usize = Self::FIRST * Layout::CHILDREN;
+    const SECOND: usize = Self::FIRST * Common::CHILDREN;
 
-    const THIRD: usize = Self::SECOND * Layout::CHILDREN;
+    const THIRD: usize = Self::SECOND * Common::CHILDREN;
 
-    const FOURTH: usize = Self::THIRD * Layout::CHILDREN;
+    const FOURTH: usize = Self::THIRD * Common::CHILDREN;
 
-    const FIFTH: usize = Self::FOURTH * Layout::CHILDREN;
+    const FIFTH: usize = Self::FOURTH * Common::CHILDREN;
 }
 
 pub fn power_of_6(d: usize) -> usize

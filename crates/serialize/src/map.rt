@@ -2,7 +2,7 @@
 use crate::height::depth_of;
 use crate::height::power_of_6;
 use fields::primitive::put_u32;
-use format::Layout;
+use format::Common;
 use nodes::inline_vec::ChildPos;
 use nodes::inline_vec::OpenInner;
 use nodes::inline_vec::OpenLeaf;
@@ -82,7 +82,7 @@ fn fill(keys: &[u64], values: &[u64], node: OpenInner, child: ChildPos, next: us
     let mut n = node;
     let mut c = child;
     let mut i = next;
-    while n.len < Layout::ENTRIES {
+    while n.len < Common::ENTRIES {
         let Next::Got(e) = entry_at(keys, values, i) else {
             return Filled {
                 node: n,
@@ -180,19 +180,19 @@ fn leaf_fits(len: usize, at: usize, count: usize, next: usize, ll: usize, n: usi
     if n - next < 6 {
         return Fit::NoRoom;
     }
-    if len < Layout::LEAF {
+    if len < Common::LEAF {
         return Fit::NoRoom;
     }
-    if len - Layout::LEAF < at {
+    if len - Common::LEAF < at {
         return Fit::NoRoom;
     }
     if ll <= count {
-        return Fit::End(at + Layout::LEAF);
+        return Fit::End(at + Common::LEAF);
     }
     if ll - count <= 5 {
         return Fit::NoRoom;
     }
-    Fit::End(at + Layout::LEAF)
+    Fit::End(at + Common::LEAF)
 }
 
 // A leaf of five entries.
@@ -222,7 +222,7 @@ fn leaf_at(keys: &[u64], values: &[u64], i: usize) -> OpenLeaf
     };
     OpenLeaf {
         entries: [a, b, c, d, e],
-        len: Layout::ENTRIES,
+        len: Common::ENTRIES,
     }
 }
 
@@ -250,7 +250,7 @@ fn shut_leaf(out: &mut [u8], leaf: OpenLeaf, child: ChildPos, at: usize) -> Shut
     ensures state { λ r. ⌜ r ≡ shutOf (fitOf (length (now (out .entry))) at 96) child at ⌝ }
     ensures bytes { λ r. ⌜ now (out .exit) ≡ outOf (fitOf (length (now (out .entry))) at 96) (now (out .entry)) at (leafBytes (leaf .entries) (leaf .len)) ⌝ }
 {
-    let Fit::End(end) = fits_at(out.len(), at, Layout::LEAF) else {
+    let Fit::End(end) = fits_at(out.len(), at, Common::LEAF) else {
         return Shut { child, at };
     };
     close_leaf(out, at, leaf);
@@ -266,7 +266,7 @@ fn shut_node(out: &mut [u8], node: OpenInner, child: ChildPos, at: usize) -> Shu
     ensures state { λ r. ⌜ r ≡ shutOf (fitOf (length (now (out .entry))) at 112) child at ⌝ }
     ensures bytes { λ r. ⌜ now (out .exit) ≡ outOf (fitOf (length (now (out .entry))) at 112) (now (out .entry)) at (innerBytes at node child) ⌝ }
 {
-    let Fit::End(end) = fits_at(out.len(), at, Layout::INNER) else {
+    let Fit::End(end) = fits_at(out.len(), at, Common::INNER) else {
         return Shut { child, at };
     };
     close_inner(out, at, node, child);
@@ -286,7 +286,7 @@ fn stride(out: &mut [u8], keys: &[u64], values: &[u64], ll: usize, low: Low) -> 
 {
     let mut node = low.node;
     let mut here = low.here;
-    while node.len < Layout::ENTRIES {
+    while node.len < Common::ENTRIES {
         let at = here.at;
         let next = here.next;
         let Fit::End(end) = leaf_fits(out.len(), at, here.count, next, ll, keys.len()) else {
@@ -411,7 +411,7 @@ fn rise(
     while 0 < o {
         let i = o - 1;
         let lowest = inners.nodes[i];
-        if lowest.len < Layout::ENTRIES {
+        if lowest.len < Common::ENTRIES {
             return Crossed {
                 rank: o,
                 child: c,
@@ -437,12 +437,12 @@ fn leaf_size(count: usize, ll: usize) -> usize
     ensures { λ r. ⌜ Sized r count ll ⌝ }
 {
     if ll <= count {
-        return Layout::ENTRIES;
+        return Common::ENTRIES;
     }
-    if ll - count < Layout::ENTRIES {
+    if ll - count < Common::ENTRIES {
         return ll - count;
     }
-    Layout::ENTRIES
+    Common::ENTRIES
 }
 
 // The next leaf is closed, then the node over the last level where that ends with the leaf, then each node that is full.
@@ -549,5 +549,5 @@ pub fn resolve_from_len(out: &mut [u8], at: usize, root: ChildPos, n: usize)
 {
     let offset = offset_bits(at, root);
     put_u32(out, at, offset);
-    put_u32(out, at + Layout::POINTER, n as u32);
+    put_u32(out, at + Common::POINTER, n as u32);
 }

@@ -2,6 +2,7 @@ pub mod Tests
 pub mod Bytes
 pub mod Signed
 pub mod RelPtr
+pub mod Widths
 pub mod Align
 pub mod Degrees
 pub mod Key
