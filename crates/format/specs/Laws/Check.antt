@@ -5,3 +5,4 @@ pub mod Reach
 pub mod Archive
 pub mod Refusals
 pub mod Depth
+pub mod Bounds

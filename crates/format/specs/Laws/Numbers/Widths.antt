@@ -5,7 +5,7 @@ use native.Mathlib.Nat.{mul-le-mul, mul-le-mul-left, mul-suc}
 use native.Mathlib.Omega.{arith}
 use Rattle.format.specs.declared.Layout.{Layout as NamedLayout}
 use Rattle.format.specs.declared.Width.the-variants.{Four}
-use Rattle.format.specs.Layout.{Width, two, four, eight, bytes, Layout, layoutOf, layout32, pointer, innerSize}
+use Rattle.format.specs.Layout.{Width, two, four, eight, bytes, Layout, layoutOf, layout32, pointer, headSize, innerSize}
 use Rattle.format.specs.Node.{child}
 
 pub bytes-some : (w : Width) → 0 < bytes w
@@ -28,6 +28,10 @@ within w i n h = let g : suc i ≤ suc n = omega arith in rw (← mul-suc) (mul-
 -- They lie in the node.
 pub reach : (L : Layout) (p end i : ℕ) → p + innerSize L ≤ end → i ≤ L .entries → child L p i + pointer L ≤ end
 reach L p end i h l = omega (arith, within (pointer L) i (L .entries) l)
+
+-- A field that is computed with n and w as sizes.
+pub field-is : (L : Layout) (p i n w : ℕ) → n ≡ headSize L → w ≡ pointer L → p + n + w * i ≡ child L p i
+field-is L p i n w e f = rw (e, f)
 
 -- The layout of four bytes and five entries is the common one.
 pub common-is : (l : NamedLayout) → l .width ≡ Four → l .entries ≡ 5 → layoutOf l ≡ layout32

@@ -1,0 +1,158 @@
+// The quick way of the check at every layout, with the width, the entries a node and the bits of the offset -1 as numbers: a struct would pass
+// through memory at each node.
+use crate::constants::Passed;
+use crate::constants::quick_node;
+use fields::primitive::u16_at;
+use fields::primitive::u32_at;
+use fields::primitive::u64_at;
+use fields::primitive::uint_at;
+use fields::rel_ptr::ones;
+use format::Layout;
+use format::Limits;
+ghost use mathlib.Core.Path.{_≡_};
+ghost use Prim.Native.Nat.{suc, _+_, _≤_, _<_, _^_};
+ghost use lib.ListN.{length};
+ghost use Rattle.format.specs.Layout.{layoutOf, bytes, signBits, pointer, innerSize};
+ghost use Rattle.format.specs.Bytes.{leAt};
+ghost use Rattle.quick.specs.Quick.{widthFor, numbered, Numbers, Passes, Below, Root};
+
+// A number of w bytes.
+fn number_at(s: &[u8], p: usize, w: usize) -> usize
+    requires { ⌜ (bytes (widthFor w) ≡ w) × (p + w ≤ length (now s)) ⌝ }
+    ensures { λ r. ⌜ (r ≡ leAt (bytes (widthFor w)) (now (s .entry)) p) × (r < 2 ^ suc (signBits (widthFor w))) ⌝ }
+{
+    if w == 4 {
+        return u32_at(s, p) as usize;
+    }
+    if w == 2 {
+        return u16_at(s, p) as usize;
+    }
+    u64_at(s, p) as usize
+}
+
+// The size of an inner node.
+fn inner_of(w: usize, e: usize) -> usize
+    requires { ⌜ (bytes (widthFor w) ≡ w) × (e ≤ 15) ⌝ }
+    ensures { λ r. ⌜ (r ≡ innerSize (numbered w e)) × (r ≤ 376) ⌝ }
+{
+    (8 + 16 * e + w * (e + 1) + 7) / 8 * 8
+}
+
+// As `quick_child`.
+fn child_below(
+    archive: &[u8],
+    w: usize,
+    e: usize,
+    ones: usize,
+    start: usize,
+    end: usize,
+    field: usize,
+    depth: usize,
+) -> Passed
+    requires { ⌜ Numbers w e ones × (start ≤ end) × (end ≤ field) × (field + w ≤ length (now archive)) × (0 < depth) ⌝ }
+    ensures { λ r. ⌜ Passes (numbered w e) (now (archive .entry)) depth start end field r ⌝ }
+{
+    let offset = number_at(archive, field, w);
+    if offset == 1 {
+        return Passed::Entries(0, start);
+    }
+    let back = ones - offset;
+    if offset <= back {
+        return Passed::No;
+    }
+    if field - start <= back {
+        return Passed::No;
+    }
+    let p = field - 1 - back;
+    let after = p + (8 + 16 * e);
+    if end < after + 8 {
+        return Passed::No;
+    }
+    if p % Layout::NODE_ALIGN != 0 {
+        return Passed::No;
+    }
+    if archive[p] == 0 {
+        let count = number_at(archive, after, w);
+        if count > e {
+            return Passed::No;
+        }
+        return Passed::Entries(count, after + 8);
+    }
+    let size = inner_of(w, e);
+    if archive[p] != 1 {
+        return Passed::No;
+    }
+    if end < p + size {
+        return Passed::No;
+    }
+    let entries = node_below(archive, w, e, ones, start, p, depth - 1);
+    if entries == 0 {
+        return Passed::No;
+    }
+    Passed::Entries(entries, p + size)
+}
+
+// As `quick_node`.
+fn node_below(
+    archive: &[u8],
+    w: usize,
+    e: usize,
+    ones: usize,
+    start: usize,
+    at: usize,
+    depth: usize,
+) -> usize
+    requires { ⌜ Numbers w e ones × (start ≤ at) × (at + innerSize (numbered w e) ≤ length (now archive)) ⌝ }
+    ensures { λ r. ⌜ (0 < r → Below (numbered w e) (now (archive .entry)) depth start at r) ⌝ }
+{
+    if depth == 0 {
+        return 0;
+    }
+    let first = at + (8 + 16 * e);
+    let mut from = start;
+    let mut total = e;
+    for i in 0..e + 1 {
+        let child = child_below(archive, w, e, ones, from, at, first + w * i, depth);
+        let Passed::Entries(entries, next) = child else {
+            return 0;
+        };
+        total += entries;
+        from = next;
+    }
+    total
+}
+
+// The entries of the inner node that the record's field leads to and of all below it, or 0. The common layout goes on with constants.
+pub fn quick_root(archive: &[u8], layout: Layout, at: usize, depth: usize) -> usize
+    requires { ⌜ (layout .entries ≤ 15) × (at + pointer (layoutOf layout) ≤ length (now archive)) × (0 < depth) ⌝ }
+    ensures { λ r. ⌜ (0 < r → Root (layoutOf layout) (now (archive .entry)) depth at r) ⌝ }
+{
+    if archive.len() > Limits::LONGEST {
+        return 0;
+    }
+    let width = layout.width;
+    let w = layout.pointer();
+    let all = ones(width) as usize;
+    let offset = uint_at(archive, at, width) as usize;
+    let back = all - offset;
+    if offset <= back {
+        return 0;
+    }
+    if at <= back {
+        return 0;
+    }
+    let p = at - 1 - back;
+    if at < p + layout.inner() {
+        return 0;
+    }
+    if p % Layout::NODE_ALIGN != 0 {
+        return 0;
+    }
+    if archive[p] != 1 {
+        return 0;
+    }
+    if layout.is_common() {
+        return quick_node(archive, 0, p, depth - 1);
+    }
+    node_below(archive, w, layout.entries, all, 0, p, depth - 1)
+}
