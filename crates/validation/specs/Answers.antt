@@ -2,7 +2,7 @@
 use Prim.Native.Nat.{ℕ, _-_}
 use mathlib.Core.Path.{_≡_}
 use mathlib.Core.List.{List}
-use Rattle.format.specs.Layout.{layout32, headSize, nodeAlign}
+use Rattle.format.specs.Layout.{Layout, headSize, nodeAlign}
 use Rattle.format.specs.Refusal.{number}
 use Rattle.format.specs.Node.{inner}
 use Rattle.format.specs.Check.{Checked, accepted, refused, enter, checkNode}
@@ -43,10 +43,10 @@ enteredLeaf (node.Refused r) = into.Refused r
 enteredLeaf (node.Entries n end) = into.Leaf n end
 
 -- What is known of the node that a field leads to: its answer, or that it is an inner node whose first bytes stand in their place.
-abbrev pub Enters : List ℕ → SubtreeRange → ℕ → Position → Entered → Type 0
-Enters s range depth field (into.Refused r) = refused (number r) ≡ checkNode layout32 s (depth - 1) (range .end .0) (range .start .0) (field .0)
-Enters s range depth field (into.Leaf n end) = accepted n (end .0) ≡ checkNode layout32 s (depth - 1) (range .end .0) (range .start .0) (field .0)
-Enters s range depth field (into.Inner at) =
-    Held (range .start .0) (range .end .0) (at .0) (headSize layout32) nodeAlign
-    × (enter layout32 s (range .end .0) (range .start .0) (at .0) inner (entered layout32 s (depth - 1) (range .start .0) (at .0) inner)
-    ≡ checkNode layout32 s (depth - 1) (range .end .0) (range .start .0) (field .0))
+abbrev pub Enters : Layout → List ℕ → SubtreeRange → ℕ → Position → Entered → Type 0
+Enters L s range depth field (into.Refused r) = refused (number r) ≡ checkNode L s (depth - 1) (range .end .0) (range .start .0) (field .0)
+Enters L s range depth field (into.Leaf n end) = accepted n (end .0) ≡ checkNode L s (depth - 1) (range .end .0) (range .start .0) (field .0)
+Enters L s range depth field (into.Inner at) =
+    Held (range .start .0) (range .end .0) (at .0) (headSize L) nodeAlign
+    × (enter L s (range .end .0) (range .start .0) (at .0) inner (entered L s (depth - 1) (range .start .0) (at .0) inner)
+    ≡ checkNode L s (depth - 1) (range .end .0) (range .start .0) (field .0))

@@ -6,7 +6,7 @@ use crate::archive::check_subtree_ptr;
 use crate::archive::in_subtree;
 use crate::archive::pop_subtree_range;
 use crate::archive::push_subtree_range;
-use fields::primitive::u32_at;
+use fields::primitive::uint_at;
 use fields::rel_ptr::Target;
 use fields::rel_ptr::is_invalid_at;
 use fields::rel_ptr::rel_ptr_at;
@@ -15,12 +15,13 @@ use format::Layout;
 use format::Limits;
 use format::Position;
 use format::Refusal;
+use quick::numbers::quick_root;
 ghost use mathlib.Core.Path.{_≡_};
-ghost use Prim.Native.Nat.{_+_, _-_, _≤_};
+ghost use Prim.Native.Nat.{_+_, _-_, _^_, _<_, _≤_};
 ghost use lib.ListN.{length};
-ghost use Rattle.format.specs.Layout.{layout32, standard, pointer, headSize, nodeAlign, recordSize};
+ghost use Rattle.format.specs.Layout.{layoutOf, standard, pointer, headSize, innerSize, nodeAlign, recordSize};
 ghost use Rattle.format.specs.Refusal.{checkOf};
-ghost use Rattle.format.specs.Node.{leaf, inner};
+ghost use Rattle.format.specs.Node.{leaf, inner, child};
 ghost use Rattle.format.specs.Check.{counted, enter, checkNode, recorded, checkRoot, checkArchive};
 ghost use Rattle.validation.specs.Entered.{entered};
 ghost use Rattle.validation.specs.Subtree.{Held};
@@ -52,21 +53,30 @@ fn refused_node(node: NodeAnswer) -> CheckAnswer
     }
 }
 
-fn check_leaf_node(archive: &[u8], range: SubtreeRange, depth: usize, at: Position) -> NodeAnswer
-    requires { ⌜ (range .end .0 ≤ length (now archive)) × Held (range .start .0) (range .end .0) (at .0) (headSize layout32) nodeAlign ⌝ }
-    ensures { λ r. ⌜ nodeOf r ≡ enter layout32 (now (archive .entry)) (range .end .0) (range .start .0) (at .0) leaf
-        (entered layout32 (now (archive .entry)) (depth - 1) (range .start .0) (at .0) leaf) ⌝ }
+fn check_leaf_node(
+    archive: &[u8],
+    layout: Layout,
+    range: SubtreeRange,
+    depth: usize,
+    at: Position,
+) -> NodeAnswer
+    requires { ⌜ (layout .entries ≤ 15) × (range .end .0 ≤ length (now archive))
+        × Held (range .start .0) (range .end .0) (at .0) (headSize (layoutOf layout)) nodeAlign ⌝ }
+    ensures { λ r. ⌜ nodeOf r ≡ enter (layoutOf layout) (now (archive .entry)) (range .end .0) (range .start .0) (at .0) leaf
+        (entered (layoutOf layout) (now (archive .entry)) (depth - 1) (range .start .0) (at .0) leaf) ⌝ }
 {
-    let entered = in_subtree(range, depth, at, Layout::LEAF, Layout::NODE_ALIGN);
+    let leaf_size = layout.leaf();
+    let entered = in_subtree(range, depth, at, leaf_size, Layout::NODE_ALIGN);
     let PtrAnswer::Inside = entered else {
         return refused_ptr(entered);
     };
     let from = at.0;
-    let count = u32_at(archive, from + Layout::NODE) as usize;
-    if count > Layout::ENTRIES {
+    let width = layout.width;
+    let count = uint_at(archive, from + layout.node(), width) as usize;
+    if count > layout.entries {
         return NodeAnswer::Refused(Refusal::InvalidLength);
     }
-    NodeAnswer::Entries(count, Position(from + Layout::LEAF))
+    NodeAnswer::Entries(count, Position(from + leaf_size))
 }
 
 // What a field leads to, before an inner node's children are checked: a leaf's entries and end, or an inner node's position.
@@ -87,109 +97,132 @@ fn entered_leaf(node: NodeAnswer) -> Entered
 }
 
 // Follows a field and reads the kind. A leaf is checked whole; of an inner node the first bytes stand in their place.
-fn enter_node(archive: &[u8], range: SubtreeRange, depth: usize, field: Position) -> Entered
-    requires { ⌜ (range .end .0 ≤ length (now archive)) × (field .0 + pointer layout32 ≤ length (now archive)) ⌝ }
-    ensures { λ r. ⌜ Enters (now (archive .entry)) range depth field r ⌝ }
+fn enter_node(
+    archive: &[u8],
+    layout: Layout,
+    range: SubtreeRange,
+    depth: usize,
+    field: Position,
+) -> Entered
+    requires { ⌜ (layout .entries ≤ 15) × (range .end .0 ≤ length (now archive)) × (field .0 + pointer (layoutOf layout) ≤ length (now archive)) ⌝ }
+    ensures { λ r. ⌜ Enters (layoutOf layout) (now (archive .entry)) range depth field r ⌝ }
 {
-    let Target::At(at) = rel_ptr_at(archive, field) else {
+    let Target::At(at) = rel_ptr_at(archive, layout, field) else {
         return Entered::Refused(Refusal::InvalidSubtreePointer);
     };
-    let placed = check_subtree_ptr(range, at, Layout::NODE, Layout::NODE_ALIGN);
+    let placed = check_subtree_ptr(range, at, layout.node(), Layout::NODE_ALIGN);
     let PtrAnswer::Inside = placed else {
         return entered_leaf(refused_ptr(placed));
     };
     let from = at.0;
     // The kind byte.
     match archive[from] {
-        0 => entered_leaf(check_leaf_node(archive, range, depth, at)),
+        0 => entered_leaf(check_leaf_node(archive, layout, range, depth, at)),
         1 => Entered::Inner(at),
         _ => Entered::Refused(Refusal::InvalidKind),
     }
 }
 
-// The children stand before the node, each after the one before it.
-fn check_inner_node(archive: &[u8], range: SubtreeRange, depth: usize, at: Position) -> NodeAnswer
-    requires { ⌜ (range .end .0 ≤ length (now archive)) × Held (range .start .0) (range .end .0) (at .0) (headSize layout32) nodeAlign ⌝ }
-    ensures { λ r. ⌜ nodeOf r ≡ enter layout32 (now (archive .entry)) (range .end .0) (range .start .0) (at .0) inner
-        (entered layout32 (now (archive .entry)) (depth - 1) (range .start .0) (at .0) inner) ⌝ }
+// The field of child i of an inner node. It lies in the node.
+fn child_field(layout: Layout, at: Position, i: usize) -> Position
+    requires { ⌜ (i ≤ layout .entries) × (layout .entries ≤ 15) × (at .0 + innerSize (layoutOf layout) < 2 ^ 63) ⌝ }
+    ensures { λ r. ⌜ (r .0 ≡ child (layoutOf layout) (at .0) i) × (r .0 + pointer (layoutOf layout) ≤ at .0 + innerSize (layoutOf layout)) ⌝ }
 {
-    let entered = in_subtree(range, depth, at, Layout::INNER, Layout::NODE_ALIGN);
+    let from = at.0;
+    Position(from + layout.node() + layout.pointer() * i)
+}
+
+// The children stand before the node, each after the one before it.
+fn check_inner_node(
+    archive: &[u8],
+    layout: Layout,
+    range: SubtreeRange,
+    depth: usize,
+    at: Position,
+) -> NodeAnswer
+    requires { ⌜ (layout .entries ≤ 15) × (range .end .0 ≤ length (now archive))
+        × Held (range .start .0) (range .end .0) (at .0) (headSize (layoutOf layout)) nodeAlign ⌝ }
+    ensures { λ r. ⌜ nodeOf r ≡ enter (layoutOf layout) (now (archive .entry)) (range .end .0) (range .start .0) (at .0) inner
+        (entered (layoutOf layout) (now (archive .entry)) (depth - 1) (range .start .0) (at .0) inner) ⌝ }
+{
+    let inner_size = layout.inner();
+    let entered = in_subtree(range, depth, at, inner_size, Layout::NODE_ALIGN);
     let PtrAnswer::Inside = entered else {
         return refused_ptr(entered);
     };
-    let from = at.0;
+    let end = Position(at.0 + inner_size);
     let mut inside = push_subtree_range(range, at);
-    let mut total = Layout::ENTRIES;
-    for i in 0..Layout::ENTRIES {
-        let field = from + Layout::NODE + Layout::POINTER * i;
-        if is_invalid_at(archive, Position(field)) {
+    let mut total = layout.entries;
+    for i in 0..layout.entries {
+        let field = child_field(layout, at, i);
+        if is_invalid_at(archive, layout, field) {
             continue;
         }
-        let lesser = check_node_rel_ptr(archive, inside, depth - 1, Position(field));
-        let NodeAnswer::Entries(count, end) = lesser else {
+        let lesser = check_node_rel_ptr(archive, layout, inside, depth - 1, field);
+        let NodeAnswer::Entries(count, stop) = lesser else {
             return lesser;
         };
         total += count;
-        inside = pop_subtree_range(inside, end);
+        inside = pop_subtree_range(inside, stop);
     }
-    let field = from + Layout::NODE + Layout::POINTER * Layout::ENTRIES;
-    if is_invalid_at(archive, Position(field)) {
-        return NodeAnswer::Entries(total, Position(from + Layout::INNER));
+    let field = child_field(layout, at, layout.entries);
+    if is_invalid_at(archive, layout, field) {
+        return NodeAnswer::Entries(total, end);
     }
-    let greater = check_node_rel_ptr(archive, inside, depth - 1, Position(field));
+    let greater = check_node_rel_ptr(archive, layout, inside, depth - 1, field);
     let NodeAnswer::Entries(count, _) = greater else {
         return greater;
     };
-    NodeAnswer::Entries(total + count, Position(from + Layout::INNER))
+    NodeAnswer::Entries(total + count, end)
 }
 
 // The node that a field leads to, with the depth that is left before it is entered.
 fn check_node_rel_ptr(
     archive: &[u8],
+    layout: Layout,
     range: SubtreeRange,
     depth: usize,
     field: Position,
 ) -> NodeAnswer
-    requires { ⌜ (range .end .0 ≤ length (now archive)) × (field .0 + pointer layout32 ≤ length (now archive)) ⌝ }
-    ensures { λ r. ⌜ nodeOf r ≡ checkNode layout32 (now (archive .entry)) (depth - 1) (range .end .0) (range .start .0) (field .0) ⌝ }
+    requires { ⌜ (layout .entries ≤ 15) × (range .end .0 ≤ length (now archive)) × (field .0 + pointer (layoutOf layout) ≤ length (now archive)) ⌝ }
+    ensures { λ r. ⌜ nodeOf r ≡ checkNode (layoutOf layout) (now (archive .entry)) (depth - 1) (range .end .0) (range .start .0) (field .0) ⌝ }
 {
-    match enter_node(archive, range, depth, field) {
+    match enter_node(archive, layout, range, depth, field) {
         Entered::Refused(why) => NodeAnswer::Refused(why),
         Entered::Leaf(count, end) => NodeAnswer::Entries(count, end),
-        Entered::Inner(at) => check_inner_node(archive, range, depth, at),
-    }
-}
-
-// The same for the record's field. It calls `check_inner_node` itself, so that this one stays a function of its own in the compiled program and
-// `check_node_rel_ptr` becomes part of it: a leaf then takes no call.
-fn check_root_rel_ptr(
-    archive: &[u8],
-    range: SubtreeRange,
-    depth: usize,
-    field: Position,
-) -> NodeAnswer
-    requires { ⌜ (range .end .0 ≤ length (now archive)) × (field .0 + pointer layout32 ≤ length (now archive)) ⌝ }
-    ensures { λ r. ⌜ nodeOf r ≡ checkNode layout32 (now (archive .entry)) (depth - 1) (range .end .0) (range .start .0) (field .0) ⌝ }
-{
-    match enter_node(archive, range, depth, field) {
-        Entered::Refused(why) => NodeAnswer::Refused(why),
-        Entered::Leaf(count, end) => NodeAnswer::Entries(count, end),
-        Entered::Inner(at) => check_inner_node(archive, range, depth, at),
+        Entered::Inner(at) => check_inner_node(archive, layout, range, depth, at),
     }
 }
 
 // The record at a position, whose nodes stand in the range.
-fn verify(archive: &[u8], range: SubtreeRange, depth: usize, at: Position) -> CheckAnswer
-    requires { ⌜ (recordSize layout32 ≤ length (now archive)) × (at .0 ≡ length (now archive) - recordSize layout32)
+fn verify(
+    archive: &[u8],
+    layout: Layout,
+    range: SubtreeRange,
+    depth: usize,
+    at: Position,
+) -> CheckAnswer
+    requires { ⌜ (layout .entries ≤ 15) × (recordSize (layoutOf layout) ≤ length (now archive))
+        × (at .0 ≡ length (now archive) - recordSize (layoutOf layout))
         × (range .start .0 ≡ 0) × (range .end .0 ≡ at .0) × (depth ≡ standard .depth - 1) ⌝ }
-    ensures { λ r. ⌜ checkOf r ≡ counted (checkRoot layout32 standard (now (archive .entry)) (recorded layout32 (now (archive .entry)))) ⌝ }
+    ensures { λ r. ⌜ checkOf r ≡ counted
+        (checkRoot (layoutOf layout) standard (now (archive .entry)) (recorded (layoutOf layout) (now (archive .entry)))) ⌝ }
 {
     let from = at.0;
-    let count = u32_at(archive, from + Layout::POINTER) as usize;
+    let width = layout.width;
+    let count = uint_at(archive, from + layout.pointer(), width) as usize;
     if count == 0 {
         return CheckAnswer::Accepted(0);
     }
-    let root = check_root_rel_ptr(archive, range, depth, at);
+    // Where it is not 0, no node is refused, and only the count is left to test.
+    let quick = quick_root(archive, layout, from, depth - 1);
+    if 0 < quick {
+        if quick == count {
+            return CheckAnswer::Accepted(count);
+        }
+        return CheckAnswer::Refused(Refusal::EntriesLengthMismatch);
+    }
+    let root = check_node_rel_ptr(archive, layout, range, depth, at);
     let NodeAnswer::Entries(entries, _) = root else {
         return refused_node(root);
     };
@@ -200,33 +233,31 @@ fn verify(archive: &[u8], range: SubtreeRange, depth: usize, at: Position) -> Ch
 }
 
 // The recorded count, or the first refusal of 1 to 7.
-pub fn check(archive: &[u8]) -> CheckAnswer
-    ensures { λ r. ⌜ checkOf r ≡ counted (checkArchive layout32 standard (now (archive .entry))) ⌝ }
+pub fn check(archive: &[u8], layout: Layout) -> CheckAnswer
+    requires { ⌜ layout .entries ≤ 15 ⌝ }
+    ensures { λ r. ⌜ checkOf r ≡ counted (checkArchive (layoutOf layout) standard (now (archive .entry))) ⌝ }
 {
     let length = archive.len();
     if length > Limits::LONGEST {
         return CheckAnswer::Refused(Refusal::ArchiveTooLong);
     }
-    if length < Layout::RECORD {
+    let record = layout.record();
+    if length < record {
         return CheckAnswer::Refused(Refusal::InvalidSubtreePointer);
     }
     let whole = SubtreeRange {
         start: Position(0),
         end: Position(length),
     };
-    let at = Position(length - Layout::RECORD);
-    let entered = in_subtree(
-        whole,
-        Limits::DEPTH,
-        at,
-        Layout::RECORD,
-        Layout::RECORD_ALIGN,
-    );
+    let at = Position(length - record);
+    // The record aligns to its offset.
+    let entered = in_subtree(whole, Limits::DEPTH, at, record, layout.pointer());
     let PtrAnswer::Inside = entered else {
         return refused_node(refused_ptr(entered));
     };
     verify(
         archive,
+        layout,
         push_subtree_range(whole, at),
         Limits::DEPTH - 1,
         at,

@@ -1,7 +1,10 @@
 -- `validation::check::check` meets its contract. Assumes nothing.
-use mathlib.Core.Path.{refl, ap, _∙_}
+use mathlib.Core.Path.{_≡_, refl, ap, _∙_}
 use native.Mathlib.Omega.{arith}
-use Rattle.format.specs.Layout.{layout32, standard}
+use lib.ListN.{length}
+use Prim.Native.Nat.{_-_}
+use Rattle.format.specs.Layout.{layoutOf, standard, recordSize, recordAlign}
+use Rattle.validation.specs.Subtree.{opened}
 use Rattle.validation.specs.declared.archive.SubtreeRange.{SubtreeRange}
 use Rattle.validation.proofs.Nodes.{archive-long, archive-short, archive-refused, archive-opened}
 use borrow.Author.Needs.{needs}
@@ -10,38 +13,50 @@ use Rattle.validation.proofs.check.check.Tie as tie
 
 returns : tie.Need-returns
 unfolding standard
-returns c = archive-long layout32 standard _ (omega arith)
+returns c = let start : tie.Start = search in archive-long (layoutOf (start .args .layout)) standard _ (omega arith)
 
 returns-2 : tie.Need-returns-2
 unfolding standard
-returns-2 c = archive-short layout32 standard _ (omega arith) (omega arith)
+returns-2 c = let start : tie.Start = search in archive-short (layoutOf (start .args .layout)) standard _ (omega arith) (omega arith)
+
+-- What the test of the record's place answers.
+asked : (c : tie.After-in-subtree)
+    → let start : tie.Start = search in
+    let L = layoutOf (start .args .layout) in
+    let n = length (start .args .archive .now) in
+    c .in-subtree .result ≡ opened 0 n (standard .depth) (n - recordSize L) (recordSize L) (recordAlign L)
+unfolding standard
+asked c = let sized : tie.After-record = search in rw (sized .record .ensures .0, c .before .pointer .ensures .0) at (c .in-subtree .ensures)
 
 returns-3 : tie.Need-returns-3
 unfolding standard
 returns-3 c =
     let told : tie.After-enum-told2 = search in
-    let asked : tie.After-in-subtree = search in
-    archive-refused layout32 standard _ (omega arith) (omega arith) (asked .in-subtree .ensures) (told .enum-told2 .given .1)
+    let place : tie.After-in-subtree = search in
+    archive-refused _ standard _ (omega arith) (omega arith) (asked place) (told .enum-told2 .given .1)
     (c .before .refused-ptr .ensures) (c .refused-node .ensures)
 
 verify-requires : tie.Need-verify-requires
 unfolding standard
 verify-requires c κs =
     let e = c .push-subtree-range .ensures in
-    (omega arith, refl, ap (λ (r : SubtreeRange). r .start .0) e, ap (λ (r : SubtreeRange). r .end .0) e, refl)
+    (search needs, omega arith, omega arith, ap (λ (r : SubtreeRange). r .start .0) e, ap (λ (r : SubtreeRange). r .end .0) e, refl)
 
 returns-4 : tie.Need-returns-4
 unfolding standard
 returns-4 c =
-    let asked : tie.After-in-subtree = search in
-    c .verify .ensures ∙ archive-opened layout32 standard _ (omega arith) (omega arith) (asked .in-subtree .ensures) (search)
+    let told : tie.After-enum-told = search in
+    let place : tie.After-in-subtree = search in
+    c .verify .ensures ∙ archive-opened _ standard _ (omega arith) (omega arith) (asked place) (told .enum-told .given .1)
 
 pub check-spec : {M : Type 1} → statement M
 check-spec =
     tie.close
     (tie.spec
     returns
+    (search needs)
     returns-2
+    (search needs)
     (search needs)
     (search needs)
     (search needs)

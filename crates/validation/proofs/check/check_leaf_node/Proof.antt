@@ -1,7 +1,9 @@
 -- `validation::check::check_leaf_node` meets its contract. Assumes nothing.
-use mathlib.Core.Path.{_≡_, sym, _∙_}
+use Prim.Native.Nat.{ℕ}
+use mathlib.Core.Path.{_≡_, sym, ap, _∙_}
 use native.Mathlib.Omega.{arith}
-use Rattle.format.specs.Layout.{layout32, leafSize, nodeAlign}
+use Rattle.format.specs.Layout.{layoutOf, leafSize, nodeAlign}
+use Rattle.format.specs.Node.{leafCount}
 use Rattle.validation.specs.Subtree.{opened}
 use Rattle.validation.specs.declared.archive.PtrAnswer.the-variants.{Inside}
 use Rattle.validation.proofs.Places.{opened-held}
@@ -10,26 +12,56 @@ use borrow.Author.Needs.{needs}
 use Rattle.validation.proofs.check.check_leaf_node.Statement.{statement}
 use Rattle.validation.proofs.check.check_leaf_node.Tie as tie
 
+-- What the place's test answers.
+asked : (c : tie.After-in-subtree)
+    → let start : tie.Start = search in
+    let a = start .args in
+    c .in-subtree .result ≡ opened (a .range .start .0) (a .range .end .0) (a .depth) (a .at .0) (leafSize (layoutOf (a .layout))) nodeAlign
+asked c =
+    let start : tie.Start = search in
+    let a = start .args in
+    c .in-subtree .ensures
+    ∙ ap (λ (n : ℕ). opened (a .range .start .0) (a .range .end .0) (a .depth) (a .at .0) n nodeAlign) (c .before .leaf .ensures .0)
+
 -- The leaf stands in its place and may be entered.
 inside : (c : tie.After-enum-told)
     → let start : tie.Start = search in
     let a = start .args in
-    opened (a .range .start .0) (a .range .end .0) (a .depth) (a .at .0) (leafSize layout32) nodeAlign ≡ Inside
-inside c = let asked : tie.After-in-subtree = search in sym (asked .in-subtree .ensures) ∙ c .enum-told .given .1
+    opened (a .range .start .0) (a .range .end .0) (a .depth) (a .at .0) (leafSize (layoutOf (a .layout))) nodeAlign ≡ Inside
+inside c = sym (asked (c .before .before)) ∙ c .enum-told .given .1
+
+-- The count that the code reads.
+count : (c : tie.After-uint-at)
+    → let start : tie.Start = search in
+    let a = start .args in
+    c .uint-at .result ≡ leafCount (layoutOf (a .layout)) (a .archive .now) (a .at .0)
+count c = rw (c .before .node .ensures .0) at (c .uint-at .ensures .0)
 
 returns : tie.Need-returns
-returns c = search leaf-refused
+returns c =
+    let told : tie.After-enum-told2 = search in
+    let place : tie.After-in-subtree = search in
+    let start : tie.Start = search in
+    leaf-refused _ _ _ _ _ _ (start .pre .2) (told .enum-told2 .given .1) (c .refused-ptr .ensures) (asked place)
 
-u32-at-requires : tie.Need-u32-at-requires
-u32-at-requires c κs = omega (arith, opened-held _ _ _ _ _ _ (inside c) .0)
+uint-at-requires : tie.Need-uint-at-requires
+uint-at-requires c κs =
+    let told : tie.After-enum-told = search in
+    omega (arith, opened-held _ _ _ _ _ _ (inside told) .0)
 
 returns-2 : tie.Need-returns-2
-returns-2 c = search (leaf-long, inside (c .before .before))
+returns-2 c =
+    let read : tie.After-uint-at = search in
+    let told : tie.After-enum-told = search in
+    let start : tie.Start = search in
+    leaf-long _ _ _ _ _ _ (start .pre .2) (inside told) _ (count read) (omega arith)
 
 returns-3 : tie.Need-returns-3
 returns-3 c =
+    let read : tie.After-uint-at = search in
+    let told : tie.After-enum-told = search in
     let start : tie.Start = search in
-    leaf-entries layout32 _ _ _ _ _ (start .pre .1) (inside (c .before .before)) _ (c .before .u32-at .ensures) (omega arith)
+    leaf-entries _ _ _ _ _ _ (start .pre .2) (inside told) _ (count read) (omega arith) (omega arith)
 
 pub check-leaf-node-spec : {M : Type 1} → statement M
 check-leaf-node-spec =
@@ -39,10 +71,11 @@ check-leaf-node-spec =
     (search needs)
     (search needs)
     (search needs)
+    (search needs)
     returns
     (search needs)
-    u32-at-requires
     (search needs)
+    uint-at-requires
     returns-2
     (search needs)
     returns-3)

@@ -1,20 +1,80 @@
 -- `validation::check::verify` meets its contract. Assumes nothing.
-use Rattle.validation.proofs.Nodes.{root-none, root-refused, root-differs, root-entries}
+use Prim.Native.Nat.{_+_}
+use mathlib.Core.Path.{_≡_, refl}
+use native.Mathlib.Omega.{arith}
+use Rattle.format.specs.Layout.{layoutOf, standard, pointer}
+use Rattle.format.specs.Bytes.{leAt}
+use Rattle.validation.proofs.Nodes.{root-none, count-differs, count-agrees, root-refused, root-differs, root-entries}
 use borrow.Author.Needs.{needs}
 use Rattle.validation.proofs.check.verify.Statement.{statement}
 use Rattle.validation.proofs.check.verify.Tie as tie
 
+module _ (c : tie.After-uint-at) where
+  abbrev start : tie.Start
+  start = search
+
+  -- The recorded count.
+  count : let a = start .args in
+      let L = layoutOf (a .layout) in
+      c .uint-at .result ≡ leAt (pointer L) (a .archive .now) (a .at .0 + pointer L)
+  count = rw (c .before .pointer .ensures .0) at (c .uint-at .ensures .0)
+
 returns : tie.Need-returns
-returns c = search root-none
+returns c = let read : tie.After-uint-at = search in root-none _ _ _ (start read .pre .2) (count read) (c .if1 .taken)
+
+sub-quick-root : tie.Need-sub-quick-root
+unfolding standard
+sub-quick-root c = omega arith
+
+quick-root-requires : tie.Need-quick-root-requires
+unfolding standard
+quick-root-requires c κs = omega arith
 
 returns-2 : tie.Need-returns-2
-returns-2 c = search root-refused
+returns-2 c =
+    let quick : tie.After-quick-root = search in
+    let some : tie.Else1 = search in
+    let read : tie.After-uint-at = search in
+    let root = quick .quick-root .ensures (c .before .if2 .taken) in
+    count-agrees _ _ _ (start read .pre .2) (count read) (some .if1 .left) (start read .pre .5) refl refl (root .is) (c .if3 .taken)
 
 returns-3 : tie.Need-returns-3
-returns-3 c = search root-differs
+returns-3 c =
+    let quick : tie.After-quick-root = search in
+    let some : tie.Else1 = search in
+    let read : tie.After-uint-at = search in
+    let root = quick .quick-root .ensures (c .before .if2 .taken) in
+    count-differs _ _ _ (start read .pre .2) (count read) (some .if1 .left) (start read .pre .5) refl refl (root .is) (c .if3 .left)
 
 returns-4 : tie.Need-returns-4
-returns-4 c = search root-entries
+returns-4 c =
+    let told : tie.After-enum-told = search in
+    let answer : tie.After-check-node-rel-ptr = search in
+    let some : tie.Else1 = search in
+    let read : tie.After-uint-at = search in
+    let pre = start read .pre in
+    root-refused _ _ _ (pre .2) (count read) (some .if1 .left) (pre .5) (pre .3) (pre .4) (answer .check-node-rel-ptr .ensures)
+    (told .enum-told .given .1) (c .refused-node .ensures)
+
+returns-5 : tie.Need-returns-5
+returns-5 c =
+    let told : tie.After-root = search in
+    let answer : tie.After-check-node-rel-ptr = search in
+    let some : tie.Else1 = search in
+    let read : tie.After-uint-at = search in
+    let pre = start read .pre in
+    root-differs _ _ _ (pre .2) (count read) (some .if1 .left) (pre .5) (pre .3) (pre .4) (answer .check-node-rel-ptr .ensures)
+    (told .root .given .1) (c .if4 .taken)
+
+returns-6 : tie.Need-returns-6
+returns-6 c =
+    let told : tie.After-root = search in
+    let answer : tie.After-check-node-rel-ptr = search in
+    let some : tie.Else1 = search in
+    let read : tie.After-uint-at = search in
+    let pre = start read .pre in
+    root-entries _ _ _ (pre .2) (count read) (some .if1 .left) (pre .5) (pre .3) (pre .4) (answer .check-node-rel-ptr .ensures)
+    (told .root .given .1) (c .if4 .left)
 
 pub verify-spec : {M : Type 1} → statement M
 verify-spec =
@@ -24,10 +84,14 @@ verify-spec =
     (search needs)
     (search needs)
     returns
-    (search needs)
-    (search needs)
-    (search needs)
-    (search needs)
+    sub-quick-root
+    quick-root-requires
     returns-2
     returns-3
-    returns-4)
+    (search needs)
+    (search needs)
+    (search needs)
+    (search needs)
+    returns-4
+    returns-5
+    returns-6)
