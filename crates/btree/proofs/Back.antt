@@ -1,14 +1,15 @@
 -- Where a field leads that leads back, in the numbers of the code, and what the code reads of a child. Assumes nothing.
-use mathlib.Core.Path.{_≡_, sym, ap, _∙_}
+use mathlib.Core.Path.{_≡_, refl, sym, ap, _∙_}
 use mathlib.Core.Bool.{Bool, true, false}
 use mathlib.Core.List.{List}
-use Prim.Native.Nat.{ℕ, suc, _+_, _-_, _^_, _≤_, _<_}
+use Prim.Native.Nat.{ℕ, suc, _+_, _-_, _*_, _^_, _≤_, _<_}
 use native.Mathlib.Decide.{decLt}
 use native.Mathlib.Omega.{arith}
 use lib.IntN.{pos, _+ℤ_}
+use borrow.Author.Tests.{eq-eqb, ne-eqb}
 use Rattle.format.specs.declared.Position.{Position}
 use Rattle.format.specs.declared.Child.the-variants.{At, Absent}
-use Rattle.format.specs.Layout.{Layout, pointer, signBits}
+use Rattle.format.specs.Layout.{Layout, layout32, pointer, headSize, signBits}
 use Rattle.format.specs.Bytes.{leAt}
 use Rattle.format.specs.Signed.{ofTwos}
 use Rattle.format.specs.RelPtr.{at, below, position, target, absent}
@@ -36,6 +37,10 @@ behind h f n q e b l = go (decLt n (2 ^ h)) (decLt (2 ^ suc h - suc n) f)
         record { inside = omega (arith, d, l); is = omega (arith, d, l, z) }
     go (no k) (no d) = absurd (below≢at q (sym (leads-below f (2 ^ suc h - suc n) (ofTwos h n) (ofTwos-high h n (omega (arith, k))) (omega (arith, d))) ∙ e))
 
+-- The field of child i of the inner node at p, where h and w are the sizes that the code computes.
+pub field-is : (L : Layout) {h w : ℕ} (p i : ℕ) → h ≡ headSize L → w ≡ pointer L → p + h + w * i ≡ child L p i
+field-is L p i e f = rw (e, f)
+
 module _ (L : Layout) (s : List ℕ) where
   -- x is what the code reads at the field f.
   module _ (f x : ℕ) (d : Down L s f f) (e : x ≡ leAt (pointer L) s f) (l : x < 2 ^ suc (signBits (L .width))) where
@@ -43,19 +48,43 @@ module _ (L : Layout) (s : List ℕ) where
     unfolding target
     back = behind (signBits (L .width)) f x (d .node) (rw (← e) at (d .leads)) (d .lower) l
 
-    pub down-inside : 2 ^ suc (signBits (L .width)) ≤ f + x
-    down-inside = back .inside
+    -- What the bits lack of those of -1 is the distance less one.
+    pub down-inside : 2 ^ suc (signBits (L .width)) - 1 - x < f
+    down-inside = let far = back .inside in omega arith
 
-    pub down-is : target L s f ≡ at (f + x - 2 ^ suc (signBits (L .width)))
-    down-is = d .leads ∙ ap at (back .is)
+    pub down-is : target L s f ≡ at (f - 1 - (2 ^ suc (signBits (L .width)) - 1 - x))
+    down-is = let far = back .inside in let to = back .is in d .leads ∙ ap at (omega arith)
 
-  -- b is what the code reads at field i of the inner node at p: whether the child is absent.
-  module _ (p i : ℕ) (b : Bool) (e : b ≡ absent L s (child L p i)) where
+  -- x is the field of child i of the inner node at p as the code computes it, and b what it reads there: whether the child is absent.
+  module _ (p i x : ℕ) (b : Bool) (f : x ≡ child L p i) (e : b ≡ absent L s x) where
     pub field-absent : b ≡ true → Absent ≡ childAt L s (child L p i)
-    field-absent h = sym (child-absent L s (child L p i) (sym e ∙ h))
+    field-absent h = rw (← f) (sym (child-absent L s x (sym e ∙ h)))
 
-    pub field-down : InnerNode L s p → i ≤ L .entries → b ≡ false → Down L s (child L p i) (child L p i)
-    field-down n le h = let d = n .back i le (sym e ∙ h) in let l = d .lower in record { node = d .node; leads = d .leads; lower = omega arith }
+    pub field-down : InnerNode L s p → i ≤ L .entries → b ≡ false → Down L s x x
+    field-down n le h =
+        let d = n .back i le (rw (← f) (sym e ∙ h)) in
+        let l = d .lower in
+        record { node = d .node; leads = ap (target L s) f ∙ d .leads; lower = omega arith }
 
-    pub field-there : (q : Position) → b ≡ false → target L s (child L p i) ≡ at (q .0) → At q ≡ childAt L s (child L p i)
-    field-there q h t = sym (child-there L s (child L p i) (q .0) (sym e ∙ h) t)
+    pub field-there : (q : Position) → b ≡ false → target L s x ≡ at (q .0) → At q ≡ childAt L s (child L p i)
+    field-there q h t = rw (← f) (sym (child-there L s x (q .0) (sym e ∙ h) t))
+
+-- In the common layout: x is what the code reads at the field of child i of the inner node at p.
+module _ (s : List ℕ) (p i x : ℕ) (e : x ≡ leAt 4 s (child layout32 p i)) where
+  pub common-absent : x ≡ 1 → Absent ≡ childAt layout32 s (child layout32 p i)
+  unfolding absent
+  common-absent h = sym (child-absent layout32 s _ (eq-eqb _ _ (sym e ∙ h)))
+
+  module _ (n : InnerNode layout32 s p) (le : i ≤ 5) (h : x ≡ 1 → ⊥) (l : x < 0x1_0000_0000) where
+    present : absent layout32 s (child layout32 p i) ≡ false
+    unfolding absent
+    present = ne-eqb _ _ (λ z. h (e ∙ z))
+
+    down : Down layout32 s (child layout32 p i) (child layout32 p i)
+    down = field-down layout32 s p i _ _ refl refl n le present
+
+    pub common-inside : 0x1_0000_0000 ≤ child layout32 p i + x
+    common-inside = back layout32 s _ x down e l .inside
+
+    pub common-there : At (record { 0 = child layout32 p i + x - 0x1_0000_0000 }) ≡ childAt layout32 s (child layout32 p i)
+    common-there = sym (child-there layout32 s _ _ present (down .leads ∙ ap at (back layout32 s _ x down e l .is)))

@@ -1,7 +1,7 @@
 -- The lookup: what the scan of a node's slots keeps, what the loop down the tree keeps, and that a value that is found lies within the bytes. Assumes
 -- nothing.
 use mathlib.Core.Path.{_≡_, refl, sym, ap, _∙_}
-use Prim.Native.Nat.{ℕ, zero, suc, _+_, _-_, _≤_, _<_}
+use Prim.Native.Nat.{ℕ, zero, suc, _+_, _-_, _*_, _≤_, _<_}
 use native.Mathlib.Omega.{arith}
 use native.Mathlib.Nat.{sub-zero}
 use native.Mathlib.Numerals.{add-one}
@@ -14,65 +14,50 @@ use Rattle.format.specs.declared.Child.{Child}
 use Rattle.format.specs.declared.Child.the-variants.{At, Absent}
 use Rattle.format.specs.declared.Found.{Found}
 use Rattle.format.specs.declared.Found.the-variants.{Entry as found, Nothing as nothing}
-use Rattle.format.specs.Layout.{Layout, headSize, Limits, nested}
+use Rattle.format.specs.Layout.{Layout, keysFrom, headSize, Limits, nested}
 use Rattle.format.specs.Bytes.{leAt}
-use Rattle.format.specs.Node.{leaf, inner, child, keyAt, leafCount, slot}
+use Rattle.format.specs.Node.{leaf, inner, child, leafCount, slot}
 use Rattle.format.specs.Lookup.{Order, less, equal, greater, order, lookupSlots, lookupChildren, lookupBody, lookupAt, bytesOf, placeOf}
 use Rattle.format.specs.Readable.{LeadsTo, childAt, Node, leafG, innerG, Good, LeafNode, InnerNode}
 use Rattle.format.specs.Laws.Read.Children.{onChild, on-at, on-absent, look-child, child-leads}
 use Rattle.format.specs.Laws.Read.Node.{kind-leaf, as-leaf, as-inner, lookup-node}
-use Rattle.btree.specs.Seek.{seekAt}
+use Rattle.btree.specs.Seek.{orderAt, seekAt}
 use Rattle.btree.specs.declared.map.Seek.{Seek}
 use Rattle.btree.specs.declared.map.Seek.the-variants.{Equal, Less}
 use Rattle.btree.proofs.Runs.{one-left}
 
 -- ---- the scan of a node's slots
 
-module _ (L : Layout) (s : List ℕ) (p key : ℕ) where
+module _ (s : List ℕ) (p key : ℕ) where
   module _ (n i : ℕ) where
-    at-less : order key (slot L s p i) ≡ less → seekAt L s p key (suc n) i ≡ Less i
+    at-less : orderAt s p key i ≡ less → seekAt s p key (suc n) i ≡ Less i
     unfolding seekAt
     at-less e = rw (e, seekAt)
 
-    at-equal : order key (slot L s p i) ≡ equal → seekAt L s p key (suc n) i ≡ Equal i
+    at-equal : orderAt s p key i ≡ equal → seekAt s p key (suc n) i ≡ Equal i
     unfolding seekAt
     at-equal e = rw (e, seekAt)
 
-    at-greater : order key (slot L s p i) ≡ greater → seekAt L s p key (suc n) i ≡ seekAt L s p key n (i + 1)
+    at-greater : orderAt s p key i ≡ greater → seekAt s p key (suc n) i ≡ seekAt s p key n (i + 1)
     unfolding seekAt
     at-greater e = rw (e, add-one i, seekAt)
 
-  at-end : (i : ℕ) → seekAt L s p key 0 i ≡ Less i
+  at-end : (i : ℕ) → seekAt s p key 0 i ≡ Less i
   unfolding seekAt
   at-end i = refl
 
   -- k is the key that the code reads in slot i.
-  module _ (n i k : ℕ) (h : i < n) (e : k ≡ leAt 8 s (keyAt L p i)) (q : seekAt L s p key (n - i) i ≡ seekAt L s p key (n - 0) 0) where
-    slot-key : slot L s p i .key ≡ k
-    unfolding slot
-    slot-key = sym e
+  module _ (n i k : ℕ) (h : i < n) (e : k ≡ leAt 8 s (p + keysFrom + 8 * i)) (q : seekAt s p key (n - i) i ≡ seekAt s p key (n - 0) 0) where
+    pub seek-less : key < k → Less i ≡ seekAt s p key n 0
+    seek-less l = cc (one-left n i h, at-less (n - (i + 1)) i (rw (← e, lt-ltb key k l)), q, sub-zero n)
 
-    pub seek-less : key < k → Less i ≡ seekAt L s p key n 0
-    seek-less l = cc (one-left n i h, at-less (n - (i + 1)) i (rw (lt-ltb key (slot L s p i .key) (rw slot-key l), order)), q, sub-zero n)
+    pub seek-equal : k ≤ key → key ≡ k → Equal i ≡ seekAt s p key n 0
+    seek-equal l t = cc (one-left n i h, at-equal (n - (i + 1)) i (rw (← e, le-ltb key k l, eq-eqb key k t)), q, sub-zero n)
 
-    pub seek-equal : k ≤ key → key ≡ k → Equal i ≡ seekAt L s p key n 0
-    seek-equal l t =
-        cc (
-          one-left n i h,
-          at-equal (n - (i + 1)) i (rw (le-ltb key (slot L s p i .key) (rw slot-key l), eq-eqb key (slot L s p i .key) (t ∙ sym slot-key), order)),
-          q,
-          sub-zero n,
-        )
+    pub seek-greater : k ≤ key → (key ≡ k → ⊥) → seekAt s p key (n - (i + 1)) (i + 1) ≡ seekAt s p key (n - 0) 0
+    seek-greater l t = cc (one-left n i h, at-greater (n - (i + 1)) i (rw (← e, le-ltb key k l, ne-eqb key k t)), q)
 
-    pub seek-greater : k ≤ key → (key ≡ k → ⊥) → seekAt L s p key (n - (i + 1)) (i + 1) ≡ seekAt L s p key (n - 0) 0
-    seek-greater l t =
-        cc (
-          one-left n i h,
-          at-greater (n - (i + 1)) i (rw (le-ltb key (slot L s p i .key) (rw slot-key l), ne-eqb key (slot L s p i .key) (λ z. t (z ∙ slot-key)), order)),
-          q,
-        )
-
-  pub seek-end : (n i : ℕ) → n ≤ i → seekAt L s p key (n - i) i ≡ seekAt L s p key (n - 0) 0 → Less i ≡ seekAt L s p key n 0
+  pub seek-end : (n i : ℕ) → n ≤ i → seekAt s p key (n - i) i ≡ seekAt s p key (n - 0) 0 → Less i ≡ seekAt s p key n 0
   seek-end n i h q = let z : n - i ≡ 0 = omega arith in cc (at-end i, sub-zero n)
 
 -- ---- the slot that the scan gives is one of the node's
@@ -82,25 +67,25 @@ abbrev Within : ℕ → Seek → Type 0
 Within n (Equal i) = i < n
 Within n (Less i) = i ≤ n
 
-module _ (L : Layout) (s : List ℕ) (p key : ℕ) where
-  scan-within : (n i m : ℕ) → n + i ≡ m → Within m (seekAt L s p key n i)
+module _ (s : List ℕ) (p key : ℕ) where
+  scan-within : (n i m : ℕ) → n + i ≡ m → Within m (seekAt s p key n i)
   unfolding seekAt
   scan-within zero i m e = omega arith
-  scan-within (suc n) i m e = go (order key (slot L s p i)) (scan-within n (suc i) m (omega arith))
+  scan-within (suc n) i m e = go (orderAt s p key i) (scan-within n (suc i) m (omega arith))
     where
-      go : (o : Order) → Within m (seekAt L s p key n (suc i)) → Within m (elim o [ less ↦ Less i | equal ↦ Equal i | greater ↦ seekAt L s p key n (suc i) ])
+      go : (o : Order) → Within m (seekAt s p key n (suc i)) → Within m (elim o [ less ↦ Less i | equal ↦ Equal i | greater ↦ seekAt s p key n (suc i) ])
       go less h = omega (arith, e)
       go equal h = omega (arith, e)
       go greater h = h
 
-  seek-within : (n : ℕ) → Within n (seekAt L s p key n 0)
+  seek-within : (n : ℕ) → Within n (seekAt s p key n 0)
   seek-within n = scan-within n 0 n (omega arith)
 
   -- r is what the scan gave.
-  pub seek-slot : (n i : ℕ) (r : Seek) → r ≡ seekAt L s p key n 0 → r ≡ Equal i → i < n
+  pub seek-slot : (n i : ℕ) (r : Seek) → r ≡ seekAt s p key n 0 → r ≡ Equal i → i < n
   seek-slot n i r e k = rw (sym e ∙ k) at (seek-within n)
 
-  pub seek-child : (n i : ℕ) (r : Seek) → r ≡ seekAt L s p key n 0 → r ≡ Less i → i ≤ n
+  pub seek-child : (n i : ℕ) (r : Seek) → r ≡ seekAt s p key n 0 → r ≡ Less i → i ≤ n
   seek-child n i r e k = rw (sym e ∙ k) at (seek-within n)
 
 -- ---- the lookup in a node, by the scan
@@ -114,42 +99,42 @@ module _ (L : Layout) (s : List ℕ) where
   innerFound g p (Equal i) = found (slot L s p i)
   innerFound g p (Less i) = onChild nothing g (childAt L s (child L p i))
 
-  slots-seek : (key p n i : ℕ) → lookupSlots L s key p n i ≡ leafFound p (seekAt L s p key n i)
-  unfolding lookupSlots leafFound seekAt
+  slots-seek : (key p n i : ℕ) → lookupSlots L s key p n i ≡ leafFound p (seekAt s p key n i)
+  unfolding lookupSlots leafFound seekAt slot
   slots-seek key p zero i = refl
   slots-seek key p (suc n) i = go (order key (slot L s p i)) refl (slots-seek key p n (suc i))
     where
-      go : (o : Order) → order key (slot L s p i) ≡ o → lookupSlots L s key p n (suc i) ≡ leafFound p (seekAt L s p key n (suc i))
-          → lookupSlots L s key p (suc n) i ≡ leafFound p (seekAt L s p key (suc n) i)
+      go : (o : Order) → order key (slot L s p i) ≡ o → lookupSlots L s key p n (suc i) ≡ leafFound p (seekAt s p key n (suc i))
+          → lookupSlots L s key p (suc n) i ≡ leafFound p (seekAt s p key (suc n) i)
       go less w ih = rw (w, lookupSlots, seekAt)
       go equal w ih = rw (w, lookupSlots, seekAt)
       go greater w ih = rw (w, lookupSlots, seekAt) ih
 
-  children-seek : (key : ℕ) (look : ℕ → Found) (p n i : ℕ) → lookupChildren L s key look p n i ≡ innerFound look p (seekAt L s p key n i)
-  unfolding lookupChildren innerFound seekAt
+  children-seek : (key : ℕ) (look : ℕ → Found) (p n i : ℕ) → lookupChildren L s key look p n i ≡ innerFound look p (seekAt s p key n i)
+  unfolding lookupChildren innerFound seekAt slot
   children-seek key look p zero i = look-child L s key look (child L p i)
   children-seek key look p (suc n) i = go (order key (slot L s p i)) refl (children-seek key look p n (suc i))
     where
-      go : (o : Order) → order key (slot L s p i) ≡ o → lookupChildren L s key look p n (suc i) ≡ innerFound look p (seekAt L s p key n (suc i))
-          → lookupChildren L s key look p (suc n) i ≡ innerFound look p (seekAt L s p key (suc n) i)
+      go : (o : Order) → order key (slot L s p i) ≡ o → lookupChildren L s key look p n (suc i) ≡ innerFound look p (seekAt s p key n (suc i))
+          → lookupChildren L s key look p (suc n) i ≡ innerFound look p (seekAt s p key (suc n) i)
       go less w ih = rw (w, lookupChildren, seekAt) (look-child L s key look (child L p i))
       go equal w ih = rw (w, lookupChildren, seekAt)
       go greater w ih = rw (w, lookupChildren, seekAt) ih
 
 module _ (L : Layout) (M : Limits) (s : List ℕ) where
-  lookup-leaf : (p key : ℕ) → Node L M s p → getD s p 0 ≡ 0 → lookupAt L s key (nested M) p ≡ leafFound L s p (seekAt L s p key (leafCount L s p) 0)
+  lookup-leaf : (p key : ℕ) → Node L M s p → getD s p 0 ≡ 0 → lookupAt L s key (nested M) p ≡ leafFound L s p (seekAt s p key (leafCount L s p) 0)
   unfolding lookupBody
   lookup-leaf p key v h = lookup-node L M s key p v ∙ rw (kind-leaf L s p h) (slots-seek L s key p (leafCount L s p) 0)
 
   lookup-inner : (p key : ℕ) → Node L M s p → (getD s p 0 ≡ 0 → ⊥)
-      → lookupAt L s key (nested M) p ≡ innerFound L s (lookupAt L s key (nested M)) p (seekAt L s p key (L .entries) 0)
+      → lookupAt L s key (nested M) p ≡ innerFound L s (lookupAt L s key (nested M)) p (seekAt s p key (L .entries) 0)
   unfolding lookupBody
   lookup-inner p key v h = lookup-node L M s key p v ∙ rw (as-inner L M s v h .is) (children-seek L s key (lookupAt L s key (nested M)) p (L .entries) 0)
 
   -- ---- the loop down the tree: r is what the scan of the node at p gave, and g what the lookup comes to
 
   module _ (p key : ℕ) (r : Seek) (g : Found) (v : Node L M s p) (t : lookupAt L s key (nested M) p ≡ g) where
-    module _ (n : ℕ) (h : getD s p 0 ≡ 0) (c : n ≡ leafCount L s p) (q : r ≡ seekAt L s p key n 0) where
+    module _ (n : ℕ) (h : getD s p 0 ≡ 0) (c : n ≡ leafCount L s p) (q : r ≡ seekAt s p key n 0) where
       pub leaf-hit : (i : ℕ) (e : Entry) → r ≡ Equal i → e ≡ slot L s p i → found e ≡ g
       unfolding leafFound
       leaf-hit i e k f = cc (lookup-leaf p key v h, t, c, q)
@@ -158,7 +143,7 @@ module _ (L : Layout) (M : Limits) (s : List ℕ) where
       unfolding leafFound
       leaf-miss i k = cc (lookup-leaf p key v h, t, c, q)
 
-    module _ (h : getD s p 0 ≡ 0 → ⊥) (q : r ≡ seekAt L s p key (L .entries) 0) where
+    module _ (h : getD s p 0 ≡ 0 → ⊥) (q : r ≡ seekAt s p key (L .entries) 0) where
       pub inner-hit : (i : ℕ) (e : Entry) → r ≡ Equal i → e ≡ slot L s p i → found e ≡ g
       unfolding innerFound
       inner-hit i e k f = cc (lookup-inner p key v h, t, q)
@@ -176,9 +161,9 @@ module _ (L : Layout) (M : Limits) (s : List ℕ) where
   pub leaf-count : {p : ℕ} (n : ℕ) → Node L M s p → getD s p 0 ≡ 0 → n ≡ leafCount L s p → n ≤ L .entries
   leaf-count n v h e = let c = as-leaf L M s v h .count in omega arith
 
-  pub leaf-slot : {p : ℕ} (key n i : ℕ) (r : Seek) → Node L M s p → getD s p 0 ≡ 0 → n ≡ leafCount L s p → r ≡ seekAt L s p key n 0
+  pub leaf-slot : {p : ℕ} (key n i : ℕ) (r : Seek) → Node L M s p → getD s p 0 ≡ 0 → n ≡ leafCount L s p → r ≡ seekAt s p key n 0
       → r ≡ Equal i → i < L .entries
-  leaf-slot {p} key n i r v h e q k = let l = seek-slot L s p key n i r q k in let c = leaf-count n v h e in omega arith
+  leaf-slot {p} key n i r v h e q k = let l = seek-slot s p key n i r q k in let c = leaf-count n v h e in omega arith
 
 -- ---- the value that is found lies within the bytes
 
@@ -214,14 +199,14 @@ module _ (L : Layout) (s : List ℕ) where
   unfolding lookupBody
   leaf-part key look p n =
       let r = n .room in
-      rw (slots-seek L s key p (leafCount L s p) 0) (leaf-room p (leafCount L s p) _ (omega arith) (n .count) (seek-within L s p key (leafCount L s p)))
+      rw (slots-seek L s key p (leafCount L s p) 0) (leaf-room p (leafCount L s p) _ (omega arith) (n .count) (seek-within s p key (leafCount L s p)))
 
   inner-part : (key : ℕ) (look : ℕ → Found) (p : ℕ) → InnerNode L s p → ((j q : ℕ) → j ≤ L .entries → LeadsTo L s (child L p j) q → InRoom s (look q))
       → InRoom s (lookupBody L s key look p inner)
   unfolding lookupBody
   inner-part key look p n ih =
       let r = n .room in
-      rw (children-seek L s key look p (L .entries) 0) (inner-room look p _ (omega arith) (seek-within L s p key (L .entries)) ih)
+      rw (children-seek L s key look p (L .entries) 0) (inner-room look p _ (omega arith) (seek-within s p key (L .entries)) ih)
 
   -- By the depth d that the node needs, where the lookup is given m.
   good-room : (key d m : ℕ) → d ≤ m → (p : ℕ) → Good L s d p → InRoom s (lookupAt L s key m p)

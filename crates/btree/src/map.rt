@@ -1,18 +1,21 @@
 // The walk and the lookup in an archived B-tree map (rkyv's src/collections/btree/map/mod.rs), from a node that the check has accepted.
 use crate::node::child_at;
+use crate::node::leaf_len;
 use crate::node::slot;
 use crate::node::visit_key_value_raw;
-use fields::primitive::u32_at;
+use crate::quick::put_five;
+use fields::least::least;
 use fields::primitive::u64_at;
 use format::Child;
+use format::Common;
 use format::Found;
 use format::Layout;
 use format::Position;
 ghost use mathlib.Core.Path.{_≡_};
-ghost use Prim.Native.Nat.{_+_, _≤_};
+ghost use Prim.Native.Nat.{_+_, _*_, _≤_};
 ghost use denote.Ref.{ptr};
 ghost use lib.ListN.{length};
-ghost use Rattle.format.specs.Layout.{layout32, standard, nested, headSize};
+ghost use Rattle.format.specs.Layout.{layoutOf, standard, nested};
 ghost use Rattle.format.specs.Node.{leafCount};
 ghost use Rattle.format.specs.Entries.{slots, listAt};
 ghost use Rattle.format.specs.Lookup.{lookupAt, bytesOf, placeOf};
@@ -22,22 +25,30 @@ ghost use Rattle.btree.specs.Seek.{seekAt};
 
 fn visit_leaf(
     archive: &[u8],
+    layout: Layout,
     pos: Position,
     keys: &mut [u64],
     values: &mut [u64],
     start: usize,
 ) -> usize
-    requires { ⌜ LeafNode layout32 (now archive) (pos .0) ⌝ }
+    requires { ⌜ (layout .entries ≤ 15) × LeafNode (layoutOf layout) (now archive) (pos .0) ⌝ }
     ensures { λ r. ⌜ out (now (keys .exit)) (now (values .exit)) r
-        ≡ fill (slots layout32 (now (archive .entry)) (pos .0) (leafCount layout32 (now (archive .entry)) (pos .0)) 0)
+        ≡ fill (slots (layoutOf layout) (now (archive .entry)) (pos .0) (leafCount (layoutOf layout) (now (archive .entry)) (pos .0)) 0)
         (out (now (keys .entry)) (now (values .entry)) start) ⌝ }
 {
-    let p = pos.0;
-    let n = u32_at(archive, p + Layout::NODE) as usize;
+    let n = leaf_len(archive, layout, pos);
+    let room = least(keys.len(), values.len());
+    if n == Common::ENTRIES
+        && layout.entries == Common::ENTRIES
+        && start <= room
+        && Common::ENTRIES <= room - start
+    {
+        return put_five(archive, pos, keys, values, start);
+    }
     let mut at = start;
     let mut i = 0;
     while i < n {
-        at = visit_key_value_raw(archive, pos, i, keys, values, at);
+        at = visit_key_value_raw(archive, layout, pos, i, keys, values, at);
         i += 1;
     }
     at
@@ -47,44 +58,51 @@ fn visit_leaf(
 // what is written.
 fn visit_raw(
     archive: &[u8],
+    layout: Layout,
     pos: Position,
     keys: &mut [u64],
     values: &mut [u64],
     start: usize,
 ) -> usize
-    requires { ⌜ Node layout32 standard (now archive) (pos .0) ⌝ }
+    requires { ⌜ (layout .entries ≤ 15) × Node (layoutOf layout) standard (now archive) (pos .0) ⌝ }
     ensures { λ r. ⌜ out (now (keys .exit)) (now (values .exit)) r
-        ≡ fill (listAt layout32 (now (archive .entry)) (nested standard) (pos .0)) (out (now (keys .entry)) (now (values .entry)) start) ⌝ }
+        ≡ fill (listAt (layoutOf layout) (now (archive .entry)) (nested standard) (pos .0)) (out (now (keys .entry)) (now (values .entry)) start) ⌝ }
 {
     if keys.len() <= start || values.len() <= start {
         return start;
     }
     let p = pos.0;
     if archive[p] == 0 {
-        return visit_leaf(archive, pos, keys, values, start);
+        return visit_leaf(archive, layout, pos, keys, values, start);
     }
     let mut at = start;
     let mut i = 0;
-    while i < Layout::ENTRIES {
-        if let Child::At(q) = child_at(archive, pos, i) {
-            at = visit_raw(archive, q, keys, values, at);
+    while i < layout.entries {
+        if let Child::At(q) = child_at(archive, layout, pos, i) {
+            at = visit_raw(archive, layout, q, keys, values, at);
         }
-        at = visit_key_value_raw(archive, pos, i, keys, values, at);
+        at = visit_key_value_raw(archive, layout, pos, i, keys, values, at);
         i += 1;
     }
-    if let Child::At(q) = child_at(archive, pos, Layout::ENTRIES) {
-        at = visit_raw(archive, q, keys, values, at);
+    if let Child::At(q) = child_at(archive, layout, pos, layout.entries) {
+        at = visit_raw(archive, layout, q, keys, values, at);
     }
     at
 }
 
 // Writes the entries from the root on, from the front of both lists until the shorter is full, and returns how many are written.
-pub fn visit(archive: &[u8], root: Position, keys: &mut [u64], values: &mut [u64]) -> usize
-    requires { ⌜ Node layout32 standard (now archive) (root .0) ⌝ }
+pub fn visit(
+    archive: &[u8],
+    layout: Layout,
+    root: Position,
+    keys: &mut [u64],
+    values: &mut [u64],
+) -> usize
+    requires { ⌜ (layout .entries ≤ 15) × Node (layoutOf layout) standard (now archive) (root .0) ⌝ }
     ensures { λ r. ⌜ out (now (keys .exit)) (now (values .exit)) r
-        ≡ walked (listAt layout32 (now (archive .entry)) (nested standard) (root .0)) (now (keys .entry)) (now (values .entry)) ⌝ }
+        ≡ walked (listAt (layoutOf layout) (now (archive .entry)) (nested standard) (root .0)) (now (keys .entry)) (now (values .entry)) ⌝ }
 {
-    visit_raw(archive, root, keys, values, 0)
+    visit_raw(archive, layout, root, keys, values, 0)
 }
 
 // The first slot whose key is not below the one sought: equal to it, or above it. Where all keys are below, the place past them.
@@ -95,8 +113,8 @@ enum Seek {
 
 // Of a node's first n slots.
 fn seek_slot(archive: &[u8], pos: Position, key: u64, n: usize) -> Seek
-    requires { ⌜ (pos .0 + headSize layout32 ≤ length (now archive)) × (n ≤ layout32 .entries) ⌝ }
-    ensures { λ r. ⌜ r ≡ seekAt layout32 (now (archive .entry)) (pos .0) key n 0 ⌝ }
+    requires { ⌜ pos .0 + 8 + 8 * n ≤ length (now archive) ⌝ }
+    ensures { λ r. ⌜ r ≡ seekAt (now (archive .entry)) (pos .0) key n 0 ⌝ }
 {
     let p = pos.0;
     let mut i = 0;
@@ -113,25 +131,37 @@ fn seek_slot(archive: &[u8], pos: Position, key: u64, n: usize) -> Seek
     Seek::Less(i)
 }
 
+// Of all slots of an inner node. Five have a call of their own, for speed: the length of its loop is known, and the compiler unrolls it.
+fn seek_inner(archive: &[u8], layout: Layout, pos: Position, key: u64) -> Seek
+    requires { ⌜ pos .0 + 8 + 8 * layout .entries ≤ length (now archive) ⌝ }
+    ensures { λ r. ⌜ r ≡ seekAt (now (archive .entry)) (pos .0) key (layout .entries) 0 ⌝ }
+{
+    let entries = layout.entries;
+    if entries == Common::ENTRIES {
+        return seek_slot(archive, pos, key, Common::ENTRIES);
+    }
+    seek_slot(archive, pos, key, entries)
+}
+
 // The entry with that key from the node at `pos` on, by one path down, whether or not keys ascend.
-pub fn get_key_value_raw(archive: &[u8], pos: Position, key: u64) -> Found
-    requires { ⌜ Node layout32 standard (now archive) (pos .0) ⌝ }
-    ensures { λ r. ⌜ r ≡ lookupAt layout32 (now (archive .entry)) key (nested standard) (pos .0) ⌝ }
+pub fn get_key_value_raw(archive: &[u8], layout: Layout, pos: Position, key: u64) -> Found
+    requires { ⌜ (layout .entries ≤ 15) × Node (layoutOf layout) standard (now archive) (pos .0) ⌝ }
+    ensures { λ r. ⌜ r ≡ lookupAt (layoutOf layout) (now (archive .entry)) key (nested standard) (pos .0) ⌝ }
 {
     let mut current = pos;
     loop {
         let p = current.0;
         if archive[p] == 0 {
-            let n = u32_at(archive, p + Layout::NODE) as usize;
+            let n = leaf_len(archive, layout, current);
             match seek_slot(archive, current, key, n) {
-                Seek::Equal(i) => return Found::Entry(slot(archive, current, i)),
+                Seek::Equal(i) => return Found::Entry(slot(archive, layout, current, i)),
                 Seek::Less(_) => return Found::Nothing,
             }
         }
-        match seek_slot(archive, current, key, Layout::ENTRIES) {
-            Seek::Equal(i) => return Found::Entry(slot(archive, current, i)),
+        match seek_inner(archive, layout, current, key) {
+            Seek::Equal(i) => return Found::Entry(slot(archive, layout, current, i)),
             Seek::Less(i) => {
-                let Child::At(q) = child_at(archive, current, i) else {
+                let Child::At(q) = child_at(archive, layout, current, i) else {
                     return Found::Nothing;
                 };
                 current = q;
@@ -141,13 +171,13 @@ pub fn get_key_value_raw(archive: &[u8], pos: Position, key: u64) -> Found
 }
 
 // The eight bytes of the value with that key, as a part of the archive; where there is none, the empty part at its start.
-pub fn get_bytes<'a>(archive: &'a [u8], pos: Position, key: u64) -> &'a [u8]
-    requires { ⌜ Node layout32 standard (now archive) (pos .0) ⌝ }
+pub fn get_bytes<'a>(archive: &'a [u8], layout: Layout, pos: Position, key: u64) -> &'a [u8]
+    requires { ⌜ (layout .entries ≤ 15) × Node (layoutOf layout) standard (now archive) (pos .0) ⌝ }
     ensures place { λ r. ⌜ ptr r
-        ≡ placeOf (ptr (archive .entry)) (lookupAt layout32 (now (archive .entry)) key (nested standard) (pos .0)) ⌝ }
-    ensures bytes { λ r. ⌜ now r ≡ bytesOf (now (archive .entry)) (lookupAt layout32 (now (archive .entry)) key (nested standard) (pos .0)) ⌝ }
+        ≡ placeOf (ptr (archive .entry)) (lookupAt (layoutOf layout) (now (archive .entry)) key (nested standard) (pos .0)) ⌝ }
+    ensures bytes { λ r. ⌜ now r ≡ bytesOf (now (archive .entry)) (lookupAt (layoutOf layout) (now (archive .entry)) key (nested standard) (pos .0)) ⌝ }
 {
-    let Found::Entry(e) = get_key_value_raw(archive, pos, key) else {
+    let Found::Entry(e) = get_key_value_raw(archive, layout, pos, key) else {
         return &archive[0..0];
     };
     let at = e.position;

@@ -1,7 +1,11 @@
-// What all readers read of an accepted node (rkyv's src/collections/btree/map/mod.rs): where a child's field leads, and a slot.
-use fields::primitive::u32_at;
+// What all readers read of an accepted node (rkyv's src/collections/btree/map/mod.rs): where a child's field leads, how many slots a leaf uses, and a
+// slot.
+use crate::quick::common_child;
+use crate::quick::common_len;
 use fields::primitive::u64_at;
+use fields::primitive::uint_at;
 use fields::rel_ptr::is_invalid_at;
+use fields::rel_ptr::ones;
 use format::Child;
 use format::Entry;
 use format::Layout;
@@ -9,41 +13,58 @@ use format::Position;
 ghost use mathlib.Core.Path.{_≡_};
 ghost use Prim.Native.Nat.{_+_, _<_, _≤_};
 ghost use lib.ListN.{length};
-ghost use Rattle.format.specs.Layout.{layout32, pointer, headSize};
+ghost use Rattle.format.specs.Layout.{layoutOf, pointer, headSize};
 ghost use Rattle.format.specs.RelPtr.{at, target};
-ghost use Rattle.format.specs.Node.{child, slot};
-ghost use Rattle.format.specs.Readable.{childAt, InnerNode, Down};
+ghost use Rattle.format.specs.Node.{child, leafCount, slot};
+ghost use Rattle.format.specs.Readable.{childAt, LeafNode, InnerNode, Down};
 ghost use Rattle.format.specs.Written.{out, put};
 
-// Where a field leads that leads back: the bits of its offset are 2^32 less the distance.
-pub fn pointed(archive: &[u8], field: Position) -> Position
-    requires { ⌜ (field .0 + pointer layout32 ≤ length (now archive)) × Down layout32 (now archive) (field .0) (field .0) ⌝ }
-    ensures { λ r. ⌜ target layout32 (now (archive .entry)) (field .0) ≡ at (r .0) ⌝ }
+// Where a field leads that leads back: what its bits lack of the bits of -1 is the distance less one.
+pub fn pointed(archive: &[u8], layout: Layout, field: Position) -> Position
+    requires { ⌜ (field .0 + pointer (layoutOf layout) ≤ length (now archive)) × Down (layoutOf layout) (now archive) (field .0) (field .0) ⌝ }
+    ensures { λ r. ⌜ target (layoutOf layout) (now (archive .entry)) (field .0) ≡ at (r .0) ⌝ }
 {
     let f = field.0;
-    let bits = u32_at(archive, f) as usize;
-    Position(f + bits - 0x1_0000_0000)
+    let width = layout.width;
+    let back = ones(width) - uint_at(archive, f, width);
+    Position(f - 1 - back as usize)
 }
 
 // The child that field i of an inner node leads to; the field after the lesser children's is the greater child's.
-pub fn child_at(archive: &[u8], pos: Position, i: usize) -> Child
-    requires { ⌜ InnerNode layout32 (now archive) (pos .0) × (i ≤ layout32 .entries) ⌝ }
-    ensures { λ r. ⌜ r ≡ childAt layout32 (now (archive .entry)) (child layout32 (pos .0) i) ⌝ }
+pub fn child_at(archive: &[u8], layout: Layout, pos: Position, i: usize) -> Child
+    requires { ⌜ (layout .entries ≤ 15) × InnerNode (layoutOf layout) (now archive) (pos .0) × (i ≤ layout .entries) ⌝ }
+    ensures { λ r. ⌜ r ≡ childAt (layoutOf layout) (now (archive .entry)) (child (layoutOf layout) (pos .0) i) ⌝ }
 {
+    if layout.is_common() {
+        return common_child(archive, pos, i);
+    }
     let p = pos.0;
-    let field = Position(p + Layout::NODE + Layout::POINTER * i);
-    if is_invalid_at(archive, field) {
+    let field = Position(p + layout.node() + layout.pointer() * i);
+    if is_invalid_at(archive, layout, field) {
         return Child::Absent;
     }
-    Child::At(pointed(archive, field))
+    Child::At(pointed(archive, layout, field))
 }
 
-pub(crate) fn slot(archive: &[u8], pos: Position, i: usize) -> Entry
-    requires { ⌜ (pos .0 + headSize layout32 ≤ length (now archive)) × (i < layout32 .entries) ⌝ }
-    ensures { λ r. ⌜ r ≡ slot layout32 (now (archive .entry)) (pos .0) i ⌝ }
+// How many slots a leaf uses.
+pub fn leaf_len(archive: &[u8], layout: Layout, pos: Position) -> usize
+    requires { ⌜ (layout .entries ≤ 15) × LeafNode (layoutOf layout) (now archive) (pos .0) ⌝ }
+    ensures { λ r. ⌜ r ≡ leafCount (layoutOf layout) (now (archive .entry)) (pos .0) ⌝ }
+{
+    if layout.is_common() {
+        return common_len(archive, pos);
+    }
+    let p = pos.0;
+    let width = layout.width;
+    uint_at(archive, p + layout.node(), width) as usize
+}
+
+pub(crate) fn slot(archive: &[u8], layout: Layout, pos: Position, i: usize) -> Entry
+    requires { ⌜ (layout .entries ≤ 15) × (pos .0 + headSize (layoutOf layout) ≤ length (now archive)) × (i < layout .entries) ⌝ }
+    ensures { λ r. ⌜ r ≡ slot (layoutOf layout) (now (archive .entry)) (pos .0) i ⌝ }
 {
     let p = pos.0;
-    let at = p + Layout::VALUES + 8 * i;
+    let at = p + layout.values() + 8 * i;
     Entry {
         key: u64_at(archive, p + Layout::KEYS + 8 * i),
         value: u64_at(archive, at),
@@ -54,18 +75,19 @@ pub(crate) fn slot(archive: &[u8], pos: Position, i: usize) -> Entry
 // Writes slot i at index `at` of both lists, where both have room.
 pub fn visit_key_value_raw(
     archive: &[u8],
+    layout: Layout,
     pos: Position,
     i: usize,
     keys: &mut [u64],
     values: &mut [u64],
     at: usize,
 ) -> usize
-    requires { ⌜ (pos .0 + headSize layout32 ≤ length (now archive)) × (i < layout32 .entries) ⌝ }
+    requires { ⌜ (layout .entries ≤ 15) × (pos .0 + headSize (layoutOf layout) ≤ length (now archive)) × (i < layout .entries) ⌝ }
     ensures { λ r. ⌜ out (now (keys .exit)) (now (values .exit)) r
-        ≡ put (slot layout32 (now (archive .entry)) (pos .0) i) (out (now (keys .entry)) (now (values .entry)) at) ⌝ }
+        ≡ put (slot (layoutOf layout) (now (archive .entry)) (pos .0) i) (out (now (keys .entry)) (now (values .entry)) at) ⌝ }
 {
     if at < keys.len() && at < values.len() {
-        let e = slot(archive, pos, i);
+        let e = slot(archive, layout, pos, i);
         keys[at] = e.key;
         values[at] = e.value;
         return at + 1;

@@ -2,8 +2,8 @@
 use mathlib.Core.Path.{_≡_, refl, sym, ap, _∙_}
 use mathlib.Core.Bool.{true}
 use mathlib.Core.List.{List, [], _∷_}
-use Prim.Native.Nat.{ℕ, _+_, _-_, _^_, _≤_, _<_}
-use native.Mathlib.Nat.{sub-zero}
+use Prim.Native.Nat.{ℕ, suc, _+_, _-_, _^_, _≤_, _<_}
+use native.Mathlib.Nat.{sub-zero, pow-le-pow-left}
 use native.Mathlib.Omega.{arith}
 use lib.ListN.{length, getD}
 use borrow.Author.Tests.{le-leb}
@@ -12,7 +12,7 @@ use Rattle.format.specs.declared.Position.{Position}
 use Rattle.format.specs.declared.Ends.the-variants.{Keys}
 use Rattle.format.specs.declared.Child.{Child}
 use Rattle.format.specs.declared.Child.the-variants.{At}
-use Rattle.format.specs.Layout.{Layout, layout32, Limits, standard, nested}
+use Rattle.format.specs.Layout.{Layout, Limits, standard, nested}
 use Rattle.format.specs.Bytes.{leAt}
 use Rattle.format.specs.Node.{child, keyAt, leafCount, slot}
 use Rattle.format.specs.Entries.{slots, listChildren, listAt}
@@ -215,8 +215,10 @@ module _ (least greatest : ℕ) where
     pub range-matching : o .matching ≡ length (select (held (Keys least greatest)) es)
     range-matching = ap (λ (u : Sink). u .matching) (e ∙ all-ranged least greatest es ks vs)
 
-  -- No node that the readers may read has 6 ^ 14 entries.
-  pub node-fits : (s : List ℕ) {p : ℕ} → Node layout32 standard s p
-      → 0 + length (select (held (Keys least greatest)) (listAt layout32 s (nested standard) p)) < 2 ^ 64
+  -- No node that the readers may read has 16 ^ 14 entries.
+  pub node-fits : (L : Layout) (s : List ℕ) {p : ℕ} → L .entries ≤ 15 → Node L standard s p
+      → 0 + length (select (held (Keys least greatest)) (listAt L s (nested standard) p)) < 2 ^ 64
   unfolding nested standard
-  node-fits s {p} v = omega (arith, node-few layout32 s standard v, select-few (held (Keys least greatest)) (listAt layout32 s (nested standard) p))
+  node-fits L s {p} l v =
+      let most : suc (L .entries) ^ 14 ≤ 16 ^ 14 = pow-le-pow-left {m = 16} (omega arith) 14 in
+      omega (arith, node-few L s standard v, select-few (held (Keys least greatest)) (listAt L s (nested standard) p))

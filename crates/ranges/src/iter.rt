@@ -1,13 +1,15 @@
 // The range of an archive whose keys ascend (rkyv's src/collections/btree/map/iter.rs). What is open, included or excluded is decided here, before a
 // node is read.
 use crate::node::Ranged;
-use crate::node::range_root;
+use crate::node::range_node;
 use format::Bound;
 use format::Ends;
+use format::Layout;
 use format::Position;
 ghost use mathlib.Core.Path.{_≡_};
+ghost use Prim.Native.Nat.{_≤_};
 ghost use lib.ListN.{length};
-ghost use Rattle.format.specs.Layout.{layout32, standard, nested};
+ghost use Rattle.format.specs.Layout.{layoutOf, standard, nested};
 ghost use Rattle.format.specs.Entries.{listAt};
 ghost use Rattle.format.specs.Certify.{Ascending};
 ghost use Rattle.format.specs.Range.{matches, select, endsOf};
@@ -49,18 +51,21 @@ fn ends_of(lower: Bound, upper: Bound) -> Ends
 // Writes the entries from the root on whose keys meet both bounds, from the front of both lists until the shorter is full, and counts them all.
 pub fn range_with(
     archive: &[u8],
+    layout: Layout,
     root: Position,
     lower: Bound,
     upper: Bound,
     keys: &mut [u64],
     values: &mut [u64],
 ) -> Ranged
-    requires { ⌜ Node layout32 standard (now archive) (root .0) ⌝ }
-    requires { ⌜ Ascending (listAt layout32 (now archive) (nested standard) (root .0)) ⌝ }
+    requires { ⌜ layout .entries ≤ 15 ⌝ }
+    requires { ⌜ Node (layoutOf layout) standard (now archive) (root .0) ⌝ }
+    requires { ⌜ Ascending (listAt (layoutOf layout) (now archive) (nested standard) (root .0)) ⌝ }
     ensures { λ r. ⌜ out (now (keys .exit)) (now (values .exit)) (r .written)
-        ≡ walked (select (matches lower upper) (listAt layout32 (now (archive .entry)) (nested standard) (root .0)))
+        ≡ walked (select (matches lower upper) (listAt (layoutOf layout) (now (archive .entry)) (nested standard) (root .0)))
         (now (keys .entry)) (now (values .entry)) ⌝ }
-    ensures { λ r. ⌜ r .matching ≡ length (select (matches lower upper) (listAt layout32 (now (archive .entry)) (nested standard) (root .0))) ⌝ }
+    ensures { λ r. ⌜ r .matching
+        ≡ length (select (matches lower upper) (listAt (layoutOf layout) (now (archive .entry)) (nested standard) (root .0))) ⌝ }
 {
     let none = Ranged {
         written: 0,
@@ -69,5 +74,5 @@ pub fn range_with(
     let Ends::Keys { least, greatest } = ends_of(lower, upper) else {
         return none;
     };
-    range_root(archive, root, least, greatest, keys, values, none)
+    range_node(archive, layout, root, least, greatest, keys, values, none)
 }

@@ -3,7 +3,7 @@ use mathlib.Core.Path.{_≡_}
 use Prim.Native.Nat.{_-_, _≤_}
 use lib.ListN.{length}
 use borrow.Author.Needs.{needs}
-use Rattle.format.specs.Layout.{layout32, standard, nested}
+use Rattle.format.specs.Layout.{layoutOf, standard, nested}
 use Rattle.format.specs.Lookup.{lookupAt}
 use Rattle.lookups.specs.Many.{many, firstMany}
 use Rattle.lookups.proofs.ManyLookups.{first-none, first-more, first-all, found-most}
@@ -11,12 +11,12 @@ use Rattle.lookups.proofs.look_up_all.Statement.{statement}
 use Rattle.lookups.proofs.look_up_all.Tie as tie
 
 abbrev Inv-loop : tie.InvT-loop
-Inv-loop archive root keys values₀ n found₀ i₀ values found i =
+Inv-loop archive layout root keys values₀ n found₀ i₀ values found i =
     (i ≤ n) × (length values ≡ length values₀)
-    × (many values found ≡ firstMany (λ k. lookupAt layout32 archive k (nested standard) (root .0)) keys values₀ i)
+    × (many values found ≡ firstMany (λ k. lookupAt (layoutOf layout) archive k (nested standard) (root .0)) keys values₀ i)
 
 abbrev μ-loop : tie.MeasureT-loop
-μ-loop archive root keys values₀ n found₀ i₀ values found i = n - i
+μ-loop archive layout root keys values₀ n found₀ i₀ values found i = n - i
 
 loop-holds : tie.Need-loop-holds Inv-loop μ-loop
 loop-holds c = (search needs, search needs, first-none _ _ _)
@@ -25,7 +25,7 @@ look-up-at-requires : tie.Need-look-up-at-requires Inv-loop μ-loop
 look-up-at-requires c κs =
     let head : tie.At-loop Inv-loop μ-loop = search in
     let start : tie.Start Inv-loop μ-loop = search in
-    (start .pre, search needs, search needs, found-most _ _ _ _ _ _ (head .loop .inv .2))
+    (start .pre .0, start .pre .1, search needs, search needs, found-most _ _ _ _ _ _ (head .loop .inv .2))
 
 loop-again : tie.Need-loop-again Inv-loop μ-loop
 loop-again c =

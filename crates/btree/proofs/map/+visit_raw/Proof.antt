@@ -5,7 +5,7 @@ use mathlib.Core.List.{[]}
 use mathlib.Core.Logic.{⊎-elim, ⊎-map}
 use native.Mathlib.Omega.{arith}
 use lib.ListN.{length}
-use Rattle.format.specs.Layout.{layout32, leafSize, standard, nested}
+use Rattle.format.specs.Layout.{layoutOf, leafSize, standard, nested}
 use Rattle.format.specs.Node.{child}
 use Rattle.format.specs.Entries.{listAt, listChildren}
 use Rattle.format.specs.Readable.{childAt}
@@ -30,7 +30,7 @@ use Rattle.btree.proofs.map.+visit_raw.{statement}
 use Rattle.btree.proofs.map.+visit_raw.Tie.{close}
 
 abbrev μ : Measures 3 kinds.ps ℕ
-μ κs a = a .1 .0 .0
+μ κs a = a .1 .1 .0 .0
 
 abbrev here : ℕ → In 3 kinds.ps
 here t = and 3 kinds.ps (is 3 kinds.ps μ t) visit-raw.Pre
@@ -39,13 +39,15 @@ abbrev below : ℕ → In 3 kinds.ps
 below t = and 3 kinds.ps (falls 3 kinds.ps _<_ μ t) visit-raw.Pre
 
 abbrev Inv-loop : lts.InvT-loop
-Inv-loop archive pos keys₀ values₀ start p at₀ i₀ keys values at i =
-    let left = listChildren layout32 archive (listAt layout32 archive (nested standard)) (pos .0) in
-    (i ≤ 5) × (pos .0 + leafSize layout32 ≤ length archive) × (length keys ≡ length keys₀) × (length values ≡ length values₀)
-    × (fill (left (5 - i) i) (out keys values at) ≡ fill (left (5 - i₀) i₀) (out keys₀ values₀ at₀))
+Inv-loop archive layout pos keys₀ values₀ start p at₀ i₀ keys values at i =
+    let L = layoutOf layout in
+    let left = listChildren L archive (listAt L archive (nested standard)) (pos .0) in
+    let e = layout .entries in
+    (i ≤ e) × (pos .0 + leafSize L ≤ length archive) × (length keys ≡ length keys₀) × (length values ≡ length values₀)
+    × (fill (left (e - i) i) (out keys values at) ≡ fill (left (e - i₀) i₀) (out keys₀ values₀ at₀))
 
 abbrev μ-loop : lts.MeasureT-loop
-μ-loop archive pos keys₀ values₀ start p at₀ i₀ keys values at i = 5 - i
+μ-loop archive layout pos keys₀ values₀ start p at₀ i₀ keys values at i = layout .entries - i
 
 abbrev calls : ℕ → lts.Claims
 calls t =
@@ -68,11 +70,12 @@ module _ (t : ℕ) (c : Of t lts.At-match-came) where
       ⊎-elim (λ w. (ap length (w .10) ∙ w .6 .given, ap length (w .11) ∙ w .8 .given)) (λ w. (ap length (w .2), ap length (w .3))) (c .match .came)
 
   joined : let a = start t (c .before) .args in let o = head t (c .before) .loop in
-      let next = childAt layout32 (a .archive .now) (child layout32 (a .pos .0) (o .i)) in
+      let L = layoutOf (a .layout) in
+      let next = childAt L (a .archive .now) (child L (a .pos .0) (o .i)) in
       out (c .match .keys) (c .match .values) (c .match .at)
-      ≡ fill (onChild [] (listAt layout32 (a .archive .now) (nested standard)) next) (out (o .keys) (o .values) (o .at))
+      ≡ fill (onChild [] (listAt L (a .archive .now) (nested standard)) next) (out (o .keys) (o .values) (o .at))
   joined =
-      next-child layout32 _ fill [] (runs-none put) _ _ _ _ _ _ (c .before .child-at .ensures)
+      next-child _ _ fill [] (runs-none put) _ _ _ _ _ _ (c .before .child-at .ensures)
       (⊎-map (λ w. (_, w .1 .given .1, rw (w .10, w .11, w .12) (w .5 .ensures))) (λ w. (w .1 .given .1, rw (w .2, w .3, w .4))) (c .match .came))
 
 returns : (t : ℕ) → Of t lts.Need-returns
@@ -80,10 +83,10 @@ returns t c =
     ⊎-elim (λ w. full-kept _ _ _ _ (omega arith)) (λ w. full-kept _ _ _ _ (omega (arith, leb-true))) (c .if1 .came)
 
 shared-slice-read-if3 : (t : ℕ) → Of t lts.Need-shared-slice-read-if3
-shared-slice-read-if3 t c = let start : Of t lts.Start = search in omega (arith, node-room layout32 _ _ (start .pre .1))
+shared-slice-read-if3 t c = let start : Of t lts.Start = search in omega (arith, node-room _ _ _ (start .pre .1 .1))
 
 visit-leaf-requires : (t : ℕ) → Of t lts.Need-visit-leaf-requires
-visit-leaf-requires t c κs = search as-leaf
+visit-leaf-requires t c κs = (search needs, search as-leaf)
 
 returns-2 : (t : ℕ) → Of t lts.Need-returns-2
 returns-2 t c = search leaf-run
@@ -92,13 +95,15 @@ loop-holds : (t : ℕ) → Of t lts.Need-loop-holds
 loop-holds t c = search (node-room, needs)
 
 child-at-requires : (t : ℕ) → Of t lts.Need-child-at-requires
-child-at-requires t c κs = (search as-inner, omega arith)
+child-at-requires t c κs = (search needs, search as-inner, omega arith)
 
 visit-raw-requires : (t : ℕ) → Of t lts.Need-visit-raw-requires
 visit-raw-requires t c κs =
     let there : Of t lts.After-q = search in
     let read : Of t lts.After-child-at = search in
-    child-falls layout32 _ _ _ (search) (search) (search) (omega arith) (read .child-at .ensures) (there .q .given .1)
+    let start : Of t lts.Start = search in
+    let falls = child-falls _ standard _ _ (start .pre .0) (start .pre .1 .1) (search) (omega arith) (read .child-at .ensures) (there .q .given .1) in
+    (falls .0, (search needs, falls .1))
 
 loop-again : (t : ℕ) → Of t lts.Need-loop-again
 loop-again t c =
@@ -112,13 +117,15 @@ loop-again t c =
     )
 
 child-at-requires-2 : (t : ℕ) → Of t lts.Need-child-at-requires-2
-child-at-requires-2 t c κs = (search as-inner, omega arith)
+child-at-requires-2 t c κs = (search needs, search as-inner, omega arith)
 
 visit-raw-requires-2 : (t : ℕ) → Of t lts.Need-visit-raw-requires-2
 visit-raw-requires-2 t c κs =
     let there : Of t lts.After-q2 = search in
     let read : Of t lts.After-child-at2 = search in
-    child-falls layout32 _ _ 5 (search) (search) (search) (omega arith) (read .child-at2 .ensures) (there .q2 .given .1)
+    let start : Of t lts.Start = search in
+    let falls = child-falls _ standard _ _ (start .pre .0) (start .pre .1 .1) (search) (omega arith) (read .child-at2 .ensures) (there .q2 .given .1) in
+    (falls .0, (search needs, falls .1))
 
 returns-3 : (t : ℕ) → Of t lts.Need-returns-3
 returns-3 t c = search (inner-done, child-run)

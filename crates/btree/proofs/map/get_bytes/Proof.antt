@@ -2,7 +2,6 @@
 use Prim.Native.Nat.{_+_, _≤_}
 use mathlib.Core.Path.{refl}
 use lib.ListN.{length}
-use Rattle.format.specs.Layout.{layout32}
 use Rattle.btree.proofs.Finds.{found-room, bytes-some, bytes-none, place-some, place-none}
 use native.Mathlib.Omega.{arith}
 use borrow.Author.Needs.{needs}
@@ -19,7 +18,7 @@ room : (c : tie.After-e) → let start : tie.Start = search in c .e .given .0 .0
 room c =
     let looked : tie.After-get-key-value-raw = search in
     let start : tie.Start = search in
-    found-room layout32 _ _ _ _ _ (looked .get-key-value-raw .ensures) _ (start .pre) (c .e .given .1)
+    found-room _ _ _ _ _ _ (looked .get-key-value-raw .ensures) _ (start .pre .1) (c .e .given .1)
 
 add-result : tie.Need-add-result
 add-result c = let told : tie.After-e = search in omega (arith, room told)

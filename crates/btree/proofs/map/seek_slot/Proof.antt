@@ -1,7 +1,6 @@
 -- `btree::map::seek_slot` meets its contract. Assumes nothing.
 use Rattle.btree.proofs.Finds.{seek-less, seek-equal, seek-greater, seek-end}
 use Rattle.btree.specs.Seek.{seekAt}
-use Rattle.format.specs.Layout.{layout32}
 use Prim.Native.Nat.{_≤_, _-_}
 use borrow.Author.Needs.{needs}
 use mathlib.Core.Path.{_≡_}
@@ -9,7 +8,7 @@ use Rattle.btree.proofs.map.seek_slot.Statement.{statement}
 use Rattle.btree.proofs.map.seek_slot.Tie as tie
 
 abbrev Inv-loop : tie.InvT-loop
-Inv-loop archive key n p i₀ i = (i ≤ n) × (seekAt layout32 archive p key (n - i) i ≡ seekAt layout32 archive p key (n - i₀) i₀)
+Inv-loop archive key n p i₀ i = (i ≤ n) × (seekAt archive p key (n - i) i ≡ seekAt archive p key (n - i₀) i₀)
 
 abbrev μ-loop : tie.MeasureT-loop
 μ-loop archive key n p i₀ i = n - i

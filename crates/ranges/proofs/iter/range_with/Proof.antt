@@ -4,7 +4,7 @@ use mathlib.Core.List.{List}
 use Rattle.format.specs.declared.Entry.{Entry}
 use Rattle.format.specs.declared.Ends.{Ends}
 use Rattle.format.specs.declared.Ends.the-variants.{Nothing}
-use Rattle.format.specs.Layout.{layout32, standard, nested}
+use Rattle.format.specs.Layout.{layoutOf, standard, nested}
 use Rattle.format.specs.Bytes.{AllBytes}
 use Rattle.format.specs.Entries.{listAt}
 use Rattle.format.specs.Range.{matches, select, held}
@@ -16,7 +16,7 @@ use Rattle.ranges.proofs.iter.range_with.Tie as tie
 
 -- The entries from the root on.
 abbrev entries : tie.Start → List Entry
-entries start = listAt layout32 (start .args .archive .now) (nested standard) (start .args .root .0)
+entries start = listAt (layoutOf (start .args .layout)) (start .args .archive .now) (nested standard) (start .args .root .0)
 
 -- The ends that are decided on select what the bounds select.
 same : (c : tie.After-ends-of) (ends : Ends) → c .ends-of .result ≡ ends
@@ -26,7 +26,7 @@ same c ends e =
     let known : tie.After-shared-slice-known = search in
     let a = known .before .args in
     let bytes : AllBytes (a .archive .now) = λ k. known .shared-slice-known .given k .fits in
-    node-ends (a .lower) (a .upper) layout32 _ bytes _ _ ends (sym e ∙ c .ends-of .ensures)
+    node-ends (a .lower) (a .upper) _ _ bytes _ _ ends (sym e ∙ c .ends-of .ensures)
 
 returns : tie.Need-returns
 returns c =
@@ -34,8 +34,8 @@ returns c =
     let start : tie.Start = search in
     none-written _ _ _ (same decided Nothing (c .enum-told .given .1) ∙ none-held (entries start))
 
-range-root-requires : tie.Need-range-root-requires
-range-root-requires c κs = (search, (search, search node-fits))
+range-node-requires : tie.Need-range-node-requires
+range-node-requires c κs = (search needs, (search, (search, search node-fits)))
 
 returns-2 : tie.Need-returns-2
 returns-2 c =
@@ -51,7 +51,7 @@ range-with-spec =
     (search needs)
     (search needs)
     returns
-    range-root-requires
+    range-node-requires
     (search needs)
     (search needs)
     returns-2)

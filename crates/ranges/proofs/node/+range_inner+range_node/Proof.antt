@@ -7,7 +7,7 @@ use mathlib.Core.Logic.{⊎-elim, ⊎-map}
 use native.Mathlib.Omega.{arith}
 use lib.ListN.{length}
 use Rattle.format.specs.declared.Ends.the-variants.{Keys}
-use Rattle.format.specs.Layout.{layout32, leafSize, standard}
+use Rattle.format.specs.Layout.{Layout, layoutOf, leafSize, standard}
 use Rattle.format.specs.Node.{slot}
 use Rattle.format.specs.Certify.{Ascending}
 use Rattle.format.specs.Range.{held}
@@ -36,10 +36,10 @@ use Rattle.ranges.proofs.node.+range_inner+range_node.{statement}
 use Rattle.ranges.proofs.node.+range_inner+range_node.Tie.{close}
 
 abbrev μ-inner : Measures 3 inner-kinds.ps ℕ
-μ-inner κs a = a .1 .0 .0 + a .1 .0 .0
+μ-inner κs a = a .1 .1 .0 .0 + a .1 .1 .0 .0
 
 abbrev μ-node : Measures 3 node-kinds.ps ℕ
-μ-node κs a = a .1 .0 .0 + a .1 .0 .0 + 1
+μ-node κs a = a .1 .1 .0 .0 + a .1 .1 .0 .0 + 1
 
 abbrev inner-at : ℕ → In 3 inner-kinds.ps
 inner-at t =
@@ -58,14 +58,15 @@ node-below t =
     and 3 node-kinds.ps (falls 3 node-kinds.ps _<_ μ-node t) range-node.Pre
 
 abbrev Inv-loop : inner-lts.InvT-loop
-Inv-loop archive pos least greatest keys₀ values₀ p done₀ i₀ keys values done i =
-    (i ≤ 5) × (pos .0 + leafSize layout32 ≤ length archive) × (length keys ≡ length keys₀) × (length values ≡ length values₀)
-    × Ascending (rest layout32 archive standard (pos .0) i)
-    × (ranged least greatest (rest layout32 archive standard (pos .0) i) (sink keys values (done .written) (done .matching))
-    ≡ ranged least greatest (rest layout32 archive standard (pos .0) i₀) (sink keys₀ values₀ (done₀ .written) (done₀ .matching)))
+Inv-loop archive layout pos least greatest keys₀ values₀ p done₀ i₀ end keys values done i =
+    let left = rest (layoutOf layout) archive standard (pos .0) in
+    (i ≤ layout .entries) × (pos .0 + leafSize (layoutOf layout) ≤ length archive) × (length keys ≡ length keys₀) × (length values ≡ length values₀)
+    × Ascending (left i)
+    × (ranged least greatest (left i) (sink keys values (done .written) (done .matching))
+    ≡ ranged least greatest (left i₀) (sink keys₀ values₀ (done₀ .written) (done₀ .matching)))
 
 abbrev μ-loop : inner-lts.MeasureT-loop
-μ-loop archive pos least greatest keys₀ values₀ p done₀ i₀ keys values done i = 5 - i
+μ-loop archive layout pos least greatest keys₀ values₀ p done₀ i₀ end keys values done i = layout .entries - i
 
 abbrev inner-calls : ℕ → inner-lts.Claims
 inner-calls t =
@@ -83,6 +84,10 @@ head t c = search
 abbrev start : (t : ℕ) → In-inner t inner-lts.After-child-at → In-inner t inner-lts.Start
 start t c = search
 
+-- The layout that the definitions are over.
+abbrev L : (t : ℕ) → In-inner t inner-lts.At-loop → Layout
+L t head = let start : In-inner t inner-lts.Start = search in layoutOf (start .args .layout)
+
 -- Where the arms of the child's test meet: what the child gives is done, or there is no child.
 module _ (t : ℕ) (c : In-inner t inner-lts.At-match-came) where
   lengths : let o = head t (c .before) .loop in (length (c .match .keys) ≡ length (o .keys)) × (length (c .match .values) ≡ length (o .values))
@@ -91,26 +96,26 @@ module _ (t : ℕ) (c : In-inner t inner-lts.At-match-came) where
 
   joined : let a = start t (c .before) .args in let o = head t (c .before) .loop in
       sink (c .match .keys) (c .match .values) (c .match .done .written) (c .match .done .matching)
-      ≡ ranged (a .least) (a .greatest) (at-child layout32 (a .archive .now) standard (a .pos .0) (o .i))
+      ≡ ranged (a .least) (a .greatest) (at-child (L t (head t (c .before))) (a .archive .now) standard (a .pos .0) (o .i))
       (sink (o .keys) (o .values) (o .done .written) (o .done .matching))
   joined =
-      next-child layout32 _ (ranged _ _) [] (runs-none _) _ _ _ _ _ _ (c .before .child-at .ensures)
+      next-child _ _ (ranged _ _) [] (runs-none _) _ _ _ _ _ _ (c .before .child-at .ensures)
       (⊎-map (λ w. (_, w .1 .given .1, rw (w .10, w .11, w .12) (w .5 .ensures))) (λ w. (w .1 .given .1, rw (w .2, w .3, w .4))) (c .match .came))
 
 -- Past both tests the slot matches.
 hit : (t : ℕ) (c : In-inner t inner-lts.Else2)
     → let a = start t (c .before .before) .args in
-    held (Keys (a .least) (a .greatest)) (slot layout32 (a .archive .now) (a .pos .0) (head t (c .before .before) .loop .i)) ≡ true
+    held (Keys (a .least) (a .greatest)) (slot (L t (head t (c .before .before))) (a .archive .now) (a .pos .0) (head t (c .before .before) .loop .i)) ≡ true
 hit t c =
     let read : In-inner t inner-lts.After-u64-at = search in
-    slot-held layout32 _ _ _ _ (read .u64-at .ensures) _ _ (search) (search)
+    slot-held (L t (read .before .before)) _ _ _ _ (read .u64-at .ensures) _ _ (search) (search)
 
 inner-loop-holds : (t : ℕ) → In-inner t inner-lts.Need-loop-holds
 inner-loop-holds t c = (omega arith, search node-room, refl, refl, search inner-ascends, refl)
 
 inner-loop-again : (t : ℕ) → In-inner t inner-lts.Need-loop-again
 inner-loop-again t c =
-    let low = slot-low layout32 _ _ _ _ (c .before .u64-at .ensures) _ (c .if1 .taken) in
+    let low = slot-low (L t (c .before .before .before)) _ _ _ _ (c .before .u64-at .ensures) _ (c .if1 .taken) in
     (search needs, search needs, search needs, search needs, search rest-ascends, search (inner-pass, low))
 
 inner-range-node-requires : (t : ℕ) → In-inner t inner-lts.Need-range-node-requires
@@ -119,13 +124,13 @@ inner-range-node-requires t c κs =
     let read : In-inner t inner-lts.After-child-at = search in
     let head : In-inner t inner-lts.At-loop = search in
     let start : In-inner t inner-lts.Start = search in
-    let pre = start .pre .1 in
+    let pre = start .pre .1 .1 in
     let there = child .q .given .1 in
     let field = read .child-at .ensures in
-    let falls = child-falls layout32 standard _ _ refl (pre .0) (not-leaf layout32 _ (pre .1 .0)) (omega arith) field there in
-    let ascends = child-ascends layout32 _ standard _ _ _ _ there field (search) (search) in
-    let fits = child-fits layout32 _ _ _ standard _ _ _ _ (pre .0) (pre .1 .0) (head .loop .inv .5) _ (pre .1 .1 .1) _ _ there (search) field in
-    (omega (arith, falls .0, start .pre .0), (falls .1, (ascends, fits)))
+    let falls = child-falls _ standard _ _ refl (pre .0) (not-leaf _ _ (pre .1 .0)) (omega arith) field there in
+    let ascends = child-ascends _ _ standard _ _ _ _ there field (search) (search) in
+    let fits = child-fits _ _ _ _ standard _ _ _ _ (pre .0) (pre .1 .0) (head .loop .inv .5) _ (pre .1 .1 .1) _ _ there (search) field in
+    (omega (arith, falls .0, start .pre .0), (search needs, (falls .1, (ascends, fits))))
 
 inner-same-length : (t : ℕ) → In-inner t inner-lts.Need-same-length
 inner-same-length t c = lengths t (c .before) .0 ∙ head t (c .before .before) .loop .inv .2
@@ -136,17 +141,17 @@ inner-same-length-2 t c = lengths t (c .before) .1 ∙ head t (c .before .before
 inner-returns : (t : ℕ) → In-inner t inner-lts.Need-returns
 inner-returns t c =
     let read : In-inner t inner-lts.After-u64-at = search in
-    let past = slot-past layout32 _ _ _ _ (read .u64-at .ensures) _ (c .if2 .taken) in
+    let past = slot-past (L t (read .before .before)) _ _ _ _ (read .u64-at .ensures) _ (c .if2 .taken) in
     search (inner-stop, joined t (c .before), past)
 
 inner-range-slot-requires : (t : ℕ) → In-inner t inner-lts.Need-range-slot-requires
 inner-range-slot-requires t c κs =
     let past : In-inner t inner-lts.Else2 = search in
     let met = past .before in
-    let pre = start t (met .before) .pre .1 in
+    let pre = start t (met .before) .pre .1 .1 in
     let sum = head t (met .before) .loop .inv .5 in
-    let fits = slot-fits layout32 _ _ _ standard _ _ _ _ (pre .0) (pre .1 .0) sum _ (pre .1 .1 .1) _ (search) (hit t past) (joined t met) in
-    (search needs, search needs, fits)
+    let fits = slot-fits _ _ _ _ standard _ _ _ _ (pre .0) (pre .1 .0) sum _ (pre .1 .1 .1) _ (search) (hit t past) (joined t met) in
+    (start t (met .before) .pre .1 .0, search needs, search needs, fits)
 
 inner-loop-again-2 : (t : ℕ) → In-inner t inner-lts.Need-loop-again-2
 inner-loop-again-2 t c =
@@ -159,7 +164,7 @@ inner-loop-again-2 t c =
       c .before .before .before .keys2 .given ∙ lengths t met .0 ∙ inv .2,
       c .before .values2 .given ∙ lengths t met .1 ∙ inv .3,
       search rest-ascends,
-      inner-take layout32 _ _ _ standard _ _ _ _ _ _ (search) (joined t met) (hit t past) (noted .range-slot .ensures) (inv .5),
+      inner-take _ _ _ _ standard _ _ _ _ _ _ (search) (joined t met) (hit t past) (noted .range-slot .ensures) (inv .5),
     )
 
 inner-returns-2 : (t : ℕ) → In-inner t inner-lts.Need-returns-2
@@ -172,14 +177,14 @@ inner-range-node-requires-2 t c κs =
     let end : In-inner t inner-lts.After-loop = search in
     let head : In-inner t inner-lts.At-loop = search in
     let start : In-inner t inner-lts.Start = search in
-    let pre = start .pre .1 in
+    let pre = start .pre .1 .1 in
     let there = child .q2 .given .1 in
     let field = read .child-at2 .ensures in
-    let falls = child-falls layout32 standard _ 5 refl (pre .0) (not-leaf layout32 _ (pre .1 .0)) (omega arith) field there in
-    let ascends = last-ascends layout32 _ standard _ _ _ _ there field (end .loop-test .left) (search) (search) in
+    let falls = child-falls _ standard _ _ refl (pre .0) (not-leaf _ _ (pre .1 .0)) (omega arith) field there in
+    let ascends = last-ascends _ _ standard _ _ _ _ there field (end .loop-test .left) (search) (search) in
     let fits =
-    last-fits layout32 _ _ _ standard _ _ _ _ (pre .0) (pre .1 .0) (head .loop .inv .5) _ (pre .1 .1 .1) _ _ there (end .loop-test .left) (search) field in
-    (omega (arith, falls .0, start .pre .0), (falls .1, (ascends, fits)))
+    last-fits _ _ _ _ standard _ _ _ _ (pre .0) (pre .1 .0) (head .loop .inv .5) _ (pre .1 .1 .1) _ _ there (end .loop-test .left) (search) field in
+    (omega (arith, falls .0, start .pre .0), (search needs, (falls .1, (ascends, fits))))
 
 inner-returns-3 : (t : ℕ) → In-inner t inner-lts.Need-returns-3
 inner-returns-3 t c = search (inner-end, child-run)
@@ -192,16 +197,16 @@ abbrev In-node : ℕ → (node-lts.Claims → In 3 node-kinds.ps → Out 3 node-
 In-node t place = place (node-calls t) (node-at t) range-node.Post
 
 node-shared-slice-read-if1 : (t : ℕ) → In-node t node-lts.Need-shared-slice-read-if1
-node-shared-slice-read-if1 t c = let start : In-node t node-lts.Start = search in omega (arith, node-room layout32 standard _ (start .pre .1 .0))
+node-shared-slice-read-if1 t c = let start : In-node t node-lts.Start = search in omega (arith, node-room _ standard _ (start .pre .1 .1 .0))
 
 node-range-leaf-requires : (t : ℕ) → In-node t node-lts.Need-range-leaf-requires
-node-range-leaf-requires t c κs = (search as-leaf, (search leaf-ascends, search whole-leaf-fits))
+node-range-leaf-requires t c κs = (search needs, (search as-leaf, (search leaf-ascends, search whole-leaf-fits)))
 
 node-returns : (t : ℕ) → In-node t node-lts.Need-returns
 node-returns t c = search leaf-run
 
 node-range-inner-requires : (t : ℕ) → In-node t node-lts.Need-range-inner-requires
-node-range-inner-requires t c κs = (omega arith, (search, (search as-inner, (search, search))))
+node-range-inner-requires t c κs = (omega arith, (search needs, (search, (search as-inner, (search, search)))))
 
 pub +range-inner+range-node-spec : {M : Type 1} → statement M
 +range-inner+range-node-spec = close μ-inner μ-node (λ t. inner-lts.spec (inner-calls t) (inner-at t) range-inner.Post

@@ -6,7 +6,7 @@ use native.Mathlib.Omega.{arith}
 use lib.ListN.{length}
 use borrow.Author.Needs.{needs}
 use Rattle.format.specs.declared.Ends.the-variants.{Keys}
-use Rattle.format.specs.Layout.{layout32}
+use Rattle.format.specs.Layout.{Layout, layoutOf}
 use Rattle.format.specs.Node.{slot}
 use Rattle.format.specs.Entries.{slots}
 use Rattle.format.specs.Range.{held}
@@ -18,43 +18,54 @@ use Rattle.ranges.proofs.node.range_leaf.Statement.{statement}
 use Rattle.ranges.proofs.node.range_leaf.Tie as tie
 
 abbrev Inv-loop : tie.InvT-loop
-Inv-loop archive pos least greatest keys₀ values₀ p n done₀ i₀ keys values done i =
-    (i ≤ n) × (length keys ≡ length keys₀) × (length values ≡ length values₀) × Ascending (slots layout32 archive (pos .0) (n - i) i)
-    × (ranged least greatest (slots layout32 archive (pos .0) (n - i) i) (sink keys values (done .written) (done .matching))
-    ≡ ranged least greatest (slots layout32 archive (pos .0) (n - i₀) i₀) (sink keys₀ values₀ (done₀ .written) (done₀ .matching)))
+Inv-loop archive layout pos least greatest keys₀ values₀ p n done₀ i₀ keys values done i =
+    let left = slots (layoutOf layout) archive (pos .0) in
+    (i ≤ n) × (length keys ≡ length keys₀) × (length values ≡ length values₀) × Ascending (left (n - i) i)
+    × (ranged least greatest (left (n - i) i) (sink keys values (done .written) (done .matching))
+    ≡ ranged least greatest (left (n - i₀) i₀) (sink keys₀ values₀ (done₀ .written) (done₀ .matching)))
 
 abbrev μ-loop : tie.MeasureT-loop
-μ-loop archive pos least greatest keys₀ values₀ p n done₀ i₀ keys values done i = n - i
+μ-loop archive layout pos least greatest keys₀ values₀ p n done₀ i₀ keys values done i = n - i
 
 abbrev start : tie.At-loop Inv-loop μ-loop → tie.Start Inv-loop μ-loop
 start head = search
+
+-- The layout that the definitions are over.
+abbrev L : tie.At-loop Inv-loop μ-loop → Layout
+L head = layoutOf (start head .args .layout)
 
 -- Past both tests the slot matches.
 hit : (c : tie.Else2 Inv-loop μ-loop)
     → let head : tie.At-loop Inv-loop μ-loop = search in
     let a = start head .args in
-    held (Keys (a .least) (a .greatest)) (slot layout32 (a .archive .now) (a .pos .0) (head .loop .i)) ≡ true
-hit c = slot-held layout32 _ _ _ _ (c .before .before .u64-at .ensures) _ _ (omega arith) (search)
+    held (Keys (a .least) (a .greatest)) (slot (L head) (a .archive .now) (a .pos .0) (head .loop .i)) ≡ true
+hit c =
+    let head : tie.At-loop Inv-loop μ-loop = search in
+    slot-held (L head) _ _ _ _ (c .before .before .u64-at .ensures) _ _ (omega arith) (search)
 
 loop-holds : tie.Need-loop-holds Inv-loop μ-loop
 loop-holds c = (search needs, search needs, search needs, search slots-ascend, search needs)
 
 loop-again : tie.Need-loop-again Inv-loop μ-loop
 loop-again c =
-    let low = slot-low layout32 _ _ _ _ (c .before .u64-at .ensures) _ (c .if1 .taken) in
+    let head : tie.At-loop Inv-loop μ-loop = search in
+    let low = slot-low (L head) _ _ _ _ (c .before .u64-at .ensures) _ (c .if1 .taken) in
     (search needs, search needs, search needs, search slots-rest, search (leaf-pass, low))
 
 returns : tie.Need-returns Inv-loop μ-loop
-returns c = search (leaf-stop, slot-past layout32 _ _ _ _ (c .before .before .u64-at .ensures) _ (c .if2 .taken))
+returns c =
+    let head : tie.At-loop Inv-loop μ-loop = search in
+    search (leaf-stop, slot-past (L head) _ _ _ _ (c .before .before .u64-at .ensures) _ (c .if2 .taken))
 
 range-slot-requires : tie.Need-range-slot-requires Inv-loop μ-loop
 range-slot-requires c κs =
     let past : tie.Else2 Inv-loop μ-loop = search in
     let head : tie.At-loop Inv-loop μ-loop = search in
-    let read : tie.After-u32-at Inv-loop μ-loop = search in (
+    let read : tie.After-leaf-len Inv-loop μ-loop = search in (
       search needs,
       search needs,
-      leaf-fits layout32 _ _ _ _ _ _ _ (search) (hit past) _ _ _ (read .u32-at .ensures) (head .loop .inv .4) (start head .pre .1 .1),
+      search needs,
+      leaf-fits _ _ _ _ _ _ _ _ (search) (hit past) _ _ _ (read .leaf-len .ensures) (head .loop .inv .4) (start head .pre .1 .1 .1),
     )
 
 loop-again-2 : tie.Need-loop-again-2 Inv-loop μ-loop
@@ -71,9 +82,7 @@ range-leaf-spec =
     (tie.spec
     Inv-loop
     μ-loop
-    (search needs)
-    (search needs)
-    (search needs)
+    (λ c κs. search needs)
     loop-holds
     (search needs)
     (search needs)
