@@ -1,7 +1,7 @@
 // What certification asks beyond the check, in one pass over the nodes that the check has accepted: whether one is hollow, and whether the
 // keys strictly ascend.
 use btree::node::child_at;
-use fields::primitive::u32_at;
+use btree::node::leaf_len;
 use fields::primitive::u64_at;
 use fields::rel_ptr::is_invalid_at;
 use format::Child;
@@ -10,7 +10,7 @@ use format::Position;
 ghost use mathlib.Core.Path.{_≡_};
 ghost use Prim.Native.Nat.{_+_, _<_, _≤_};
 ghost use lib.ListN.{length};
-ghost use Rattle.format.specs.Layout.{layout32, standard, nested, headSize};
+ghost use Rattle.format.specs.Layout.{layoutOf, standard, nested, headSize};
 ghost use Rattle.format.specs.Node.{inner, kind, leafCount, slot};
 ghost use Rattle.format.specs.Entries.{slots, listAt};
 ghost use Rattle.format.specs.Certify.{hollow, hollowAt, ascends};
@@ -53,58 +53,42 @@ fn note_key(order: KeyOrder, key: u64) -> KeyOrder
     }
 }
 
-fn note_slot(archive: &[u8], pos: Position, i: usize, order: KeyOrder) -> KeyOrder
-    requires { ⌜ (pos .0 + headSize layout32 ≤ length (now archive)) × (i < layout32 .entries) ⌝ }
-    ensures { λ r. ⌜ r ≡ step (slot layout32 (now (archive .entry)) (pos .0) i) order ⌝ }
+fn note_slot(archive: &[u8], layout: Layout, pos: Position, i: usize, order: KeyOrder) -> KeyOrder
+    requires { ⌜ (pos .0 + headSize (layoutOf layout) ≤ length (now archive)) × (i < layout .entries) ⌝ }
+    ensures { λ r. ⌜ r ≡ step (slot (layoutOf layout) (now (archive .entry)) (pos .0) i) order ⌝ }
 {
     let p = pos.0;
     note_key(order, u64_at(archive, p + Layout::KEYS + 8 * i))
 }
 
-// The slots of a full leaf, without a loop.
-fn note_full(archive: &[u8], pos: Position, start: KeyOrder) -> KeyOrder
-    requires { ⌜ pos .0 + headSize layout32 ≤ length (now archive) ⌝ }
-    ensures { λ r. ⌜ r ≡ runs step (slots layout32 (now (archive .entry)) (pos .0) (layout32 .entries) 0) start ⌝ }
-{
-    let first = note_slot(archive, pos, 0, start);
-    let second = note_slot(archive, pos, 1, first);
-    let third = note_slot(archive, pos, 2, second);
-    let fourth = note_slot(archive, pos, 3, third);
-    note_slot(archive, pos, 4, fourth)
-}
-
-fn note_leaf(archive: &[u8], pos: Position, start: KeyOrder) -> KeyOrder
-    requires { ⌜ LeafNode layout32 (now archive) (pos .0) ⌝ }
+fn note_leaf(archive: &[u8], layout: Layout, pos: Position, start: KeyOrder) -> KeyOrder
+    requires { ⌜ (layout .entries ≤ 15) × LeafNode (layoutOf layout) (now archive) (pos .0) ⌝ }
     ensures { λ r. ⌜ r
-        ≡ runs step (slots layout32 (now (archive .entry)) (pos .0) (leafCount layout32 (now (archive .entry)) (pos .0)) 0) start ⌝ }
+        ≡ runs step (slots (layoutOf layout) (now (archive .entry)) (pos .0) (leafCount (layoutOf layout) (now (archive .entry)) (pos .0)) 0) start ⌝ }
 {
-    let p = pos.0;
-    let n = u32_at(archive, p + Layout::NODE) as usize;
-    if n == Layout::ENTRIES {
-        return note_full(archive, pos, start);
-    }
+    let n = leaf_len(archive, layout, pos);
     let mut order = start;
     let mut i = 0;
     while i < n {
-        order = note_slot(archive, pos, i, order);
+        order = note_slot(archive, layout, pos, i, order);
         i += 1;
     }
     order
 }
 
 // The flag for hollow nodes, raised where this one is hollow: an empty leaf, or an inner node whose first child is absent.
-fn note_hollow(archive: &[u8], pos: Position, known: usize) -> usize
-    requires { ⌜ Node layout32 standard (now archive) (pos .0) ⌝ }
-    ensures { λ r. ⌜ r ≡ raised known (hollow layout32 (now (archive .entry)) (pos .0) (kind layout32 (now (archive .entry)) (pos .0))) ⌝ }
+fn note_hollow(archive: &[u8], layout: Layout, pos: Position, known: usize) -> usize
+    requires { ⌜ (layout .entries ≤ 15) × Node (layoutOf layout) standard (now archive) (pos .0) ⌝ }
+    ensures { λ r. ⌜ r ≡ raised known (hollow (layoutOf layout) (now (archive .entry)) (pos .0) (kind (layoutOf layout) (now (archive .entry)) (pos .0))) ⌝ }
 {
     let p = pos.0;
     if archive[p] == 0 {
-        if u32_at(archive, p + Layout::NODE) == 0 {
+        if leaf_len(archive, layout, pos) == 0 {
             return 1;
         }
         return known;
     }
-    if is_invalid_at(archive, Position(p + Layout::NODE)) {
+    if is_invalid_at(archive, layout, Position(p + layout.node())) {
         return 1;
     }
     known
@@ -112,22 +96,28 @@ fn note_hollow(archive: &[u8], pos: Position, known: usize) -> usize
 
 // An inner node and the nodes below it, after the keys passed at the start; `known` tells whether a hollow node is known already. The field after
 // the lesser children's is the greater child's, which no slot follows.
-fn certify_inner(archive: &[u8], pos: Position, start: KeyOrder, known: usize) -> Pass
-    requires { ⌜ Node layout32 standard (now archive) (pos .0) × (kind layout32 (now archive) (pos .0) ≡ inner) ⌝ }
-    ensures { λ r. ⌜ (r .order ≡ runs step (listAt layout32 (now (archive .entry)) (nested standard) (pos .0)) start)
-        × (r .hollow ≡ raised known (hollowAt layout32 (now (archive .entry)) (nested standard) (pos .0))) ⌝ }
+fn certify_inner(
+    archive: &[u8],
+    layout: Layout,
+    pos: Position,
+    start: KeyOrder,
+    known: usize,
+) -> Pass
+    requires { ⌜ (layout .entries ≤ 15) × Node (layoutOf layout) standard (now archive) (pos .0) × (kind (layoutOf layout) (now archive) (pos .0) ≡ inner) ⌝ }
+    ensures { λ r. ⌜ (r .order ≡ runs step (listAt (layoutOf layout) (now (archive .entry)) (nested standard) (pos .0)) start)
+        × (r .hollow ≡ raised known (hollowAt (layoutOf layout) (now (archive .entry)) (nested standard) (pos .0))) ⌝ }
 {
-    let mut hollow = note_hollow(archive, pos, known);
+    let mut hollow = note_hollow(archive, layout, pos, known);
     let mut order = start;
     let mut i = 0;
-    while i <= Layout::ENTRIES {
-        if let Child::At(q) = child_at(archive, pos, i) {
-            let below = certify_node(archive, q, order, hollow);
+    while i <= layout.entries {
+        if let Child::At(q) = child_at(archive, layout, pos, i) {
+            let below = certify_node(archive, layout, q, order, hollow);
             order = below.order;
             hollow = below.hollow;
         }
-        if i < Layout::ENTRIES {
-            order = note_slot(archive, pos, i, order);
+        if i < layout.entries {
+            order = note_slot(archive, layout, pos, i, order);
         }
         i += 1;
     }
@@ -135,48 +125,38 @@ fn certify_inner(archive: &[u8], pos: Position, start: KeyOrder, known: usize) -
 }
 
 // The nodes from `pos` on.
-fn certify_node(archive: &[u8], pos: Position, start: KeyOrder, known: usize) -> Pass
-    requires { ⌜ Node layout32 standard (now archive) (pos .0) ⌝ }
-    ensures { λ r. ⌜ (r .order ≡ runs step (listAt layout32 (now (archive .entry)) (nested standard) (pos .0)) start)
-        × (r .hollow ≡ raised known (hollowAt layout32 (now (archive .entry)) (nested standard) (pos .0))) ⌝ }
+fn certify_node(
+    archive: &[u8],
+    layout: Layout,
+    pos: Position,
+    start: KeyOrder,
+    known: usize,
+) -> Pass
+    requires { ⌜ (layout .entries ≤ 15) × Node (layoutOf layout) standard (now archive) (pos .0) ⌝ }
+    ensures { λ r. ⌜ (r .order ≡ runs step (listAt (layoutOf layout) (now (archive .entry)) (nested standard) (pos .0)) start)
+        × (r .hollow ≡ raised known (hollowAt (layoutOf layout) (now (archive .entry)) (nested standard) (pos .0))) ⌝ }
 {
     let p = pos.0;
     if archive[p] == 0 {
-        let hollow = note_hollow(archive, pos, known);
-        let order = note_leaf(archive, pos, start);
+        let hollow = note_hollow(archive, layout, pos, known);
+        let order = note_leaf(archive, layout, pos, start);
         return Pass { order, hollow };
     }
-    certify_inner(archive, pos, start, known)
-}
-
-// The same for the root. It calls `certify_inner` itself, so that this one stays a function of its own in the compiled program and `certify_node`
-// becomes part of it: a leaf then takes no call.
-fn certify_root(archive: &[u8], pos: Position, start: KeyOrder, known: usize) -> Pass
-    requires { ⌜ Node layout32 standard (now archive) (pos .0) ⌝ }
-    ensures { λ r. ⌜ (r .order ≡ runs step (listAt layout32 (now (archive .entry)) (nested standard) (pos .0)) start)
-        × (r .hollow ≡ raised known (hollowAt layout32 (now (archive .entry)) (nested standard) (pos .0))) ⌝ }
-{
-    let p = pos.0;
-    if archive[p] == 0 {
-        let hollow = note_hollow(archive, pos, known);
-        let order = note_leaf(archive, pos, start);
-        return Pass { order, hollow };
-    }
-    certify_inner(archive, pos, start, known)
+    certify_inner(archive, layout, pos, start, known)
 }
 
 // The nodes from the root on. A hollow node anywhere comes before keys that do not ascend, so neither ends the pass.
-pub fn certify(archive: &[u8], root: Position) -> Survey
-    requires { ⌜ Node layout32 standard (now archive) (root .0) ⌝ }
-    ensures { λ r. ⌜ (r .hollow ≡ hollowAt layout32 (now (archive .entry)) (nested standard) (root .0))
-        × (r .ascends ≡ ascends (listAt layout32 (now (archive .entry)) (nested standard) (root .0))) ⌝ }
+pub fn certify(archive: &[u8], layout: Layout, root: Position) -> Survey
+    requires { ⌜ (layout .entries ≤ 15) × Node (layoutOf layout) standard (now archive) (root .0) ⌝ }
+    ensures { λ r. ⌜ (r .hollow ≡ hollowAt (layoutOf layout) (now (archive .entry)) (nested standard) (root .0))
+        × (r .ascends ≡ ascends (listAt (layoutOf layout) (now (archive .entry)) (nested standard) (root .0))) ⌝ }
 {
     let start = KeyOrder {
         some: 0,
         last: 0,
         ascends: 1,
     };
-    let pass = certify_root(archive, root, start, 0);
+    let pass = certify_node(archive, layout, root, start, 0);
     let order = pass.order;
     Survey {
         hollow: pass.hollow == 1,

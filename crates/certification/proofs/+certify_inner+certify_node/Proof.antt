@@ -7,7 +7,7 @@ use mathlib.Core.Bool.{Bool, false}
 use mathlib.Core.Logic.{⊎-elim, ⊎-map}
 use native.Mathlib.Omega.{arith}
 use lib.ListN.{length, getD}
-use Rattle.format.specs.Layout.{layout32, leafSize, standard, nested}
+use Rattle.format.specs.Layout.{Layout, layoutOf, leafSize, standard, nested}
 use Rattle.format.specs.Node.{child}
 use Rattle.format.specs.Entries.{listAt}
 use Rattle.format.specs.Certify.{hollowAt}
@@ -37,10 +37,10 @@ use Rattle.certification.proofs.+certify_inner+certify_node.{statement}
 use Rattle.certification.proofs.+certify_inner+certify_node.Tie.{close}
 
 abbrev μ-inner : Measures 1 inner-kinds.ps ℕ
-μ-inner κs a = a .1 .0 .0 + a .1 .0 .0
+μ-inner κs a = a .1 .1 .0 .0 + a .1 .1 .0 .0
 
 abbrev μ-node : Measures 1 node-kinds.ps ℕ
-μ-node κs a = a .1 .0 .0 + a .1 .0 .0 + 1
+μ-node κs a = a .1 .1 .0 .0 + a .1 .1 .0 .0 + 1
 
 abbrev inner-at : ℕ → In 1 inner-kinds.ps
 inner-at t = and 1 inner-kinds.ps (is 1 inner-kinds.ps μ-inner t) certify-inner.Pre
@@ -57,14 +57,15 @@ node-below t = and 1 node-kinds.ps (falls 1 node-kinds.ps _<_ μ-node t) certify
 -- ---- certify_inner
 
 abbrev Inv-loop : inner-lts.InvT-loop
-Inv-loop archive pos known hollow₀ order₀ i₀ hollow order i =
-    let list = left layout32 archive (listAt layout32 archive (nested standard)) (pos .0) 5 in
-    let any = anyLeft layout32 archive (hollowAt layout32 archive (nested standard)) (pos .0) 5 in
-    (i ≤ 6) × (pos .0 + leafSize layout32 ≤ length archive) × (runs step (list i) order ≡ runs step (list i₀) order₀)
+Inv-loop archive layout pos known hollow₀ order₀ i₀ hollow order i =
+    let L = layoutOf layout in
+    let list = left L archive (listAt L archive (nested standard)) (pos .0) (layout .entries) in
+    let any = anyLeft L archive (hollowAt L archive (nested standard)) (pos .0) (layout .entries) in
+    (i ≤ layout .entries + 1) × (pos .0 + leafSize L ≤ length archive) × (runs step (list i) order ≡ runs step (list i₀) order₀)
     × (raised hollow (any i) ≡ raised hollow₀ (any i₀))
 
 abbrev μ-loop : inner-lts.MeasureT-loop
-μ-loop archive pos known hollow₀ order₀ i₀ hollow order i = 6 - i
+μ-loop archive layout pos known hollow₀ order₀ i₀ hollow order i = layout .entries + 1 - i
 
 abbrev inner-calls : ℕ → inner-lts.Claims
 inner-calls t =
@@ -79,9 +80,13 @@ In-inner t place = place (inner-calls t) (inner-at t) certify-inner.Post Inv-loo
 abbrev start : (t : ℕ) → In-inner t inner-lts.At-loop → In-inner t inner-lts.Start
 start t head = search
 
+-- The layout that the definitions are over.
+abbrev L : (t : ℕ) → In-inner t inner-lts.At-loop → Layout
+L t head = layoutOf (start t head .args .layout)
+
 -- The node's first byte is not a leaf's.
 not-leaf : (t : ℕ) (head : In-inner t inner-lts.At-loop) → let a = start t head .args in getD (a .archive .now) (a .pos .0) 0 ≡ 0 → ⊥
-not-leaf t head = byte-inner layout32 _ _ (start t head .pre .1 .1)
+not-leaf t head = byte-inner (L t head) _ _ (start t head .pre .1 .2)
 
 -- Where the arms of the child's test meet: the nodes from the child on are passed, or there is no child.
 module _ (t : ℕ) (c : In-inner t inner-lts.At-match-came) where
@@ -89,37 +94,40 @@ module _ (t : ℕ) (c : In-inner t inner-lts.At-match-came) where
   head = search
 
   joined : let a = start t head .args in
-      let next = childAt layout32 (a .archive .now) (child layout32 (a .pos .0) (head .loop .i)) in
-      c .match .order ≡ runs step (onChild [] (listAt layout32 (a .archive .now) (nested standard)) next) (head .loop .order)
+      let next = childAt (L t head) (a .archive .now) (child (L t head) (a .pos .0) (head .loop .i)) in
+      c .match .order ≡ runs step (onChild [] (listAt (L t head) (a .archive .now) (nested standard)) next) (head .loop .order)
   joined =
-      next-child layout32 _ (runs step) [] (runs-none step) _ _ _ _ _ _ (c .before .child-at .ensures)
+      next-child (L t head) _ (runs step) [] (runs-none step) _ _ _ _ _ _ (c .before .child-at .ensures)
       (⊎-map (λ w. (_, w .1 .given .1, w .6 ∙ w .3 .ensures .0)) (λ w. (w .1 .given .1, w .3)) (c .match .came))
 
   flagged : let a = start t head .args in
-      let next = childAt layout32 (a .archive .now) (child layout32 (a .pos .0) (head .loop .i)) in
-      c .match .hollow ≡ raised (head .loop .hollow) (onChild false (hollowAt layout32 (a .archive .now) (nested standard)) next)
+      let next = childAt (L t head) (a .archive .now) (child (L t head) (a .pos .0) (head .loop .i)) in
+      c .match .hollow ≡ raised (head .loop .hollow) (onChild false (hollowAt (L t head) (a .archive .now) (nested standard)) next)
   flagged =
-      next-child layout32 _ (λ (b : Bool) (h : ℕ). raised h b) false (λ h. sym (raised-not h)) _ _ _ _ _ _ (c .before .child-at .ensures)
+      next-child (L t head) _ (λ (b : Bool) (h : ℕ). raised h b) false (λ h. sym (raised-not h)) _ _ _ _ _ _ (c .before .child-at .ensures)
       (⊎-map (λ w. (_, w .1 .given .1, w .5 ∙ w .3 .ensures .1)) (λ w. (w .1 .given .1, w .2)) (c .match .came))
 
 -- Where the arms of the slot's test meet: one slot more, or none is left.
-passed : (t : ℕ) (c : In-inner t inner-lts.Joined1) →
-    let head = head t (c .before) in
+passed : (t : ℕ) (c : In-inner t inner-lts.Joined2) →
+    let head = head t (c .before .before) in
     let a = start t head .args in
-    let list = left layout32 (a .archive .now) (listAt layout32 (a .archive .now) (nested standard)) (a .pos .0) 5 in
-    runs step (list (head .loop .i + 1)) (c .if1 .order) ≡ runs step (list 0) (a .start)
+    let list = left (L t head) (a .archive .now) (listAt (L t head) (a .archive .now) (nested standard)) (a .pos .0) (a .layout .entries) in
+    runs step (list (head .loop .i + 1)) (c .if2 .order) ≡ runs step (list 0) (a .start)
 passed t c =
-    let sum = head t (c .before) .loop .inv .2 in
+    let met = c .before .before in
+    let sum = head t met .loop .inv .2 in
     ⊎-elim
-    (λ w. rw (w .2) (left-step layout32 _ _ _ 5 _ _ _ _ (joined t (c .before)) sum (w .0 .taken) _ (w .1 .ensures)))
-    (λ w. rw (w .1) (left-last layout32 _ _ _ 5 _ _ _ _ (joined t (c .before)) sum (omega arith) (w .0 .left)))
-    (c .if1 .came)
+    (λ w. rw (w .2) (left-step _ _ _ _ _ _ _ _ _ (joined t met) sum (w .0 .taken) _ (w .1 .ensures)))
+    (λ w. rw (w .1) (left-last _ _ _ _ _ _ _ _ _ (joined t met) sum (omega arith) (w .0 .left)))
+    (c .if2 .came)
 
 inner-loop-holds : (t : ℕ) → In-inner t inner-lts.Need-loop-holds
 inner-loop-holds t c = search (node-room, needs)
 
 inner-child-at-requires : (t : ℕ) → In-inner t inner-lts.Need-child-at-requires
-inner-child-at-requires t c κs = (as-inner layout32 standard _ (start t (c .before) .pre .1 .0) (not-leaf t (c .before)), omega arith)
+inner-child-at-requires t c κs =
+    let head : In-inner t inner-lts.At-loop = search in
+    (search needs, as-inner _ standard _ (start t head .pre .1 .1) (not-leaf t head), omega arith)
 
 inner-certify-node-requires : (t : ℕ) → In-inner t inner-lts.Need-certify-node-requires
 inner-certify-node-requires t c κs =
@@ -127,16 +135,18 @@ inner-certify-node-requires t c κs =
     let read : In-inner t inner-lts.After-child-at = search in
     let head : In-inner t inner-lts.At-loop = search in
     let falls =
-    child-falls layout32 standard _ _ refl (start t head .pre .1 .0) (not-leaf t head) (omega arith) (read .child-at .ensures) (there .q .given .1) in
-    (omega (arith, falls .0), falls .1)
+    child-falls (L t head) standard _ _ refl (start t head .pre .1 .1) (not-leaf t head) (omega arith) (read .child-at .ensures) (there .q .given .1) in
+    (omega (arith, falls .0), (start t head .pre .1 .0, falls .1))
 
 inner-loop-again : (t : ℕ) → In-inner t inner-lts.Need-loop-again
 inner-loop-again t c =
-    let l : head t (c .before) .loop .i ≤ 5 = omega arith in
-    (search needs, search needs, passed t c, search (flag-step, l, flagged t (c .before)))
+    let met = c .before .before in
+    let head = head t met in
+    let l : head .loop .i ≤ start t head .args .layout .entries = omega arith in
+    (omega arith, search needs, passed t c, search (flag-step, l, flagged t met))
 
 inner-returns : (t : ℕ) → In-inner t inner-lts.Need-returns
-inner-returns t c = let n = not-leaf t (c .before) in (search (left-done, n), search (flag-done, n))
+inner-returns t c = let n = not-leaf t (c .before .before) in (search (left-done, n), search (flag-done, n))
 
 -- ---- certify_node
 
@@ -148,10 +158,10 @@ abbrev In-node : ℕ → (node-lts.Claims → In 1 node-kinds.ps → Out 1 node-
 In-node t place = place (node-calls t) (node-at t) certify-node.Post
 
 node-shared-slice-read-if1 : (t : ℕ) → In-node t node-lts.Need-shared-slice-read-if1
-node-shared-slice-read-if1 t c = let start : In-node t node-lts.Start = search in omega (arith, node-room layout32 _ _ (start .pre .1))
+node-shared-slice-read-if1 t c = let start : In-node t node-lts.Start = search in omega (arith, node-room _ _ _ (start .pre .1 .1))
 
 node-note-leaf-requires : (t : ℕ) → In-node t node-lts.Need-note-leaf-requires
-node-note-leaf-requires t c κs = search as-leaf
+node-note-leaf-requires t c κs = (search needs, search as-leaf)
 
 node-returns : (t : ℕ) → In-node t node-lts.Need-returns
 node-returns t c = (search leaf-run, search leaf-flag)
@@ -159,7 +169,8 @@ node-returns t c = (search leaf-run, search leaf-flag)
 node-certify-inner-requires : (t : ℕ) → In-node t node-lts.Need-certify-inner-requires
 node-certify-inner-requires t c κs =
     let start : In-node t node-lts.Start = search in
-    (omega arith, (start .pre .1, as-inner layout32 standard _ (start .pre .1) (c .if1 .left) .is))
+    let v = start .pre .1 .1 in
+    (omega arith, (start .pre .1 .0, v, as-inner _ standard _ v (c .if1 .left) .is))
 
 pub +certify-inner+certify-node-spec : {M : Type 1} → statement M
 +certify-inner+certify-node-spec =

@@ -1,0 +1,40 @@
+-- `ordered::rises` meets its contract. Assumes nothing.
+use mathlib.Core.Path.{_≡_, refl}
+use mathlib.Core.Bool.{true, false}
+use Prim.Native.Nat.{ℕ, _+_, _-_, _<_, _≤_}
+use native.Mathlib.Omega.{arith}
+use borrow.Author.Needs.{needs}
+use Rattle.format.specs.Laws.Check.Reach.{true≢false}
+use Rattle.ordered.specs.Order.{keyIn}
+use Rattle.ordered.proofs.Order.{each-more}
+use Rattle.ordered.proofs.rises.Statement.{statement}
+use Rattle.ordered.proofs.rises.Tie as tie
+
+-- The first i keys after key 0 rise.
+abbrev Inv-loop : tie.InvT-loop
+Inv-loop archive p n some last i₀ i =
+    (i ≤ 4) × (some ≡ 1 → last < keyIn archive p 0) × ((j : ℕ) → j < i → j + 1 < n → keyIn archive p j < keyIn archive p (j + 1))
+
+abbrev μ-loop : tie.MeasureT-loop
+μ-loop archive p n some last i₀ i = 4 - i
+
+loop-again : tie.Need-loop-again Inv-loop μ-loop
+loop-again c =
+    let head : tie.At-loop Inv-loop μ-loop = search in
+    (omega arith, head .loop .inv .1, each-more _ _ _ _ (head .loop .inv .2) (c .before .falls .ensures (c .if2 .left)))
+
+pub rises-spec : {M : Type 1} → statement M
+rises-spec =
+    tie.close
+    (tie.spec
+    Inv-loop
+    μ-loop
+    (search needs)
+    (λ c. λ h. absurd (true≢false h refl))
+    (λ c. (omega arith, c .before .first-falls .ensures (c .if1 .left), λ j l. absurd (omega arith)))
+    (search needs)
+    (λ c. λ h. absurd (true≢false h refl))
+    (search needs)
+    (search needs)
+    loop-again
+    (λ c. λ h. record { first = c .before .loop .inv .1; each = λ j l. c .before .loop .inv .2 j (omega arith) l }))
