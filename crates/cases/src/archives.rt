@@ -13,11 +13,11 @@ use crate::output::print_line;
 use crate::output::print_number;
 use crate::output::print_pair;
 use crate::output::print_refused;
-use fieldmap::LookupAnswer;
-use fieldmap::RangeAnswer;
-use fieldmap::WalkAnswer;
 use fields::primitive::u64_at;
 use libc::STDIN_FILENO;
+use readers::LookupAnswer;
+use readers::RangeAnswer;
+use readers::WalkAnswer;
 
 // The lent lists differ in length, here and in the ranges: the shorter has 64 places.
 fn replay_walk(archive: &[u8]) {

@@ -1,11 +1,8 @@
 // Many lookups after one check.
-use btree::node::pointed;
 use codes::given;
 use codes::refused;
-use format::CheckAnswer;
 use format::Layout;
-use format::Position;
-use lookups::look_up_all;
+use readers::ManyAnswer;
 ghost use mathlib.Core.Path.{_≡_};
 ghost use Rattle.format.specs.Layout.{layout32, standard};
 ghost use Rattle.codes.specs.Answers.{coded, Tells};
@@ -19,14 +16,8 @@ pub extern "C" fn fieldmap_lookup_many(archive: &[u8], keys: &[u64], values: &mu
     ensures told { λ r. ⌜ Tells r (manyCall layout32 standard (now (archive .entry)) (now (keys .entry)) (now (values .entry))) ⌝ }
     ensures values { λ r. ⌜ now (values .exit) ≡ manyValues layout32 standard (now (archive .entry)) (now (keys .entry)) (now (values .entry)) ⌝ }
 {
-    match validation::check::check(archive) {
-        CheckAnswer::Refused(why) => refused(why),
-        CheckAnswer::Accepted(count) => {
-            if count == 0 {
-                return 0;
-            }
-            let record = Position(archive.len() - Layout::RECORD);
-            given(look_up_all(archive, pointed(archive, record), keys, values))
-        }
+    match readers::look_up_many(archive, Layout::COMMON, keys, values) {
+        ManyAnswer::Refused(why) => refused(why),
+        ManyAnswer::Found(n) => given(n),
     }
 }

@@ -2,7 +2,7 @@
 use codes::bound;
 use codes::given;
 use codes::refused;
-use fieldmap::RangeAnswer;
+use readers::RangeAnswer;
 ghost use mathlib.Core.Path.{_≡_};
 ghost use Rattle.format.specs.Layout.{layout32, standard};
 ghost use Rattle.format.specs.Calls.{rangeCall, rangeKeys, rangeValues, columnCall, columnKeys, columnValues};

@@ -2,8 +2,8 @@
 use codes::counted;
 use codes::given;
 use codes::refused;
-use fieldmap::LookupAnswer;
-use fieldmap::WalkAnswer;
+use readers::LookupAnswer;
+use readers::WalkAnswer;
 ghost use mathlib.Core.Path.{_≡_};
 ghost use lib.ListN.{take, drop};
 ghost use Rattle.format.specs.Layout.{layout32, standard};

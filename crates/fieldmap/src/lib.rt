@@ -1,22 +1,21 @@
 // The calls of the archived field map. Any bytes, lists, positions and lengths may be passed: each call answers, or gives a listed refusal and
 // leaves what was lent as it was.
-use btree::node::pointed;
 use builder::build::BuildAnswer;
 use fields::rel_ptr::Distance;
 use fields::rel_ptr::Stored;
 use fields::ser::writer::Aligned;
 use format::Bound;
 use format::CheckAnswer;
-use format::Entry;
-use format::Found;
 use format::Layout;
 use format::Packing;
-use format::Position;
 use format::Refusal;
 use perimetry::column::Columns;
 use perimetry::column::column_bounds;
 use perimetry::key::KeyFields;
 use perimetry::key::Packed;
+use readers::LookupAnswer;
+use readers::RangeAnswer;
+use readers::WalkAnswer;
 ghost use mathlib.Core.Path.{_≡_};
 ghost use lib.ListN.{length};
 ghost use denote.Ref.{ptr};
@@ -33,54 +32,20 @@ ghost use Rattle.format.specs.Calls.{columnKeys, columnValues};
 ghost use Rattle.fields.specs.Answers.{distanceOf, storedOf, alignedOf};
 ghost use Rattle.builder.specs.Answers.{builtOf};
 ghost use Rattle.perimetry.specs.Answers.{packedOf, unpackedOf};
-ghost use Rattle.fieldmap.specs.Answers.{lookupOf, walkOf, rangeOf};
-
-pub enum LookupAnswer {
-    Entry(Entry),
-    Nothing,
-    Refused(Refusal),
-}
-
-// The number written and the recorded count.
-pub enum WalkAnswer {
-    Walked(usize, usize),
-    Refused(Refusal),
-}
-
-// The number written and the number matching.
-pub enum RangeAnswer {
-    Matched(usize, usize),
-    Refused(Refusal),
-}
+ghost use Rattle.readers.specs.Answers.{lookupOf, walkOf, rangeOf};
 
 // The recorded count, or the first fault of 1 to 7.
 pub fn check(archive: &[u8]) -> CheckAnswer
     ensures { λ r. ⌜ checkOf r ≡ counted (checkArchive layout32 standard (now (archive .entry))) ⌝ }
 {
-    validation::check::check(archive)
+    validation::check::check(archive, Layout::COMMON)
 }
 
 // The recorded count, or the first fault of 1 to 9.
 pub fn certify(archive: &[u8]) -> CheckAnswer
     ensures { λ r. ⌜ checkOf r ≡ counted (certify layout32 standard (now (archive .entry))) ⌝ }
 {
-    match validation::check::check(archive) {
-        CheckAnswer::Refused(why) => CheckAnswer::Refused(why),
-        CheckAnswer::Accepted(count) => {
-            if count == 0 {
-                return CheckAnswer::Accepted(0);
-            }
-            let record = Position(archive.len() - Layout::RECORD);
-            let found = certification::certify(archive, pointed(archive, record));
-            if found.hollow {
-                return CheckAnswer::Refused(Refusal::HollowNode);
-            }
-            if found.ascends {
-                return CheckAnswer::Accepted(count);
-            }
-            CheckAnswer::Refused(Refusal::KeysNotAscending)
-        }
-    }
+    readers::certify(archive, Layout::COMMON)
 }
 
 // The entry that rkyv's search finds. On a certified archive it is the list's with that key, or there is none; on one that is only accepted the
@@ -88,20 +53,7 @@ pub fn certify(archive: &[u8]) -> CheckAnswer
 pub fn lookup(archive: &[u8], key: u64) -> LookupAnswer
     ensures { λ r. ⌜ lookupOf r ≡ lookupCall layout32 standard (now (archive .entry)) key ⌝ }
 {
-    match validation::check::check(archive) {
-        CheckAnswer::Refused(why) => LookupAnswer::Refused(why),
-        CheckAnswer::Accepted(count) => {
-            if count == 0 {
-                return LookupAnswer::Nothing;
-            }
-            let record = Position(archive.len() - Layout::RECORD);
-            let root = pointed(archive, record);
-            let Found::Entry(e) = btree::map::get_key_value_raw(archive, root, key) else {
-                return LookupAnswer::Nothing;
-            };
-            LookupAnswer::Entry(e)
-        }
-    }
+    readers::lookup(archive, Layout::COMMON, key)
 }
 
 // The eight bytes of the value that a lookup finds, as a part of the archive; where it finds none or the archive is refused, the empty part at its
@@ -110,14 +62,7 @@ pub fn lookup_bytes<'a>(archive: &'a [u8], key: u64) -> &'a [u8]
     ensures place { λ r. ⌜ ptr r ≡ placeCall layout32 standard (now (archive .entry)) (ptr (archive .entry)) key ⌝ }
     ensures bytes { λ r. ⌜ now r ≡ bytesCall layout32 standard (now (archive .entry)) key ⌝ }
 {
-    let CheckAnswer::Accepted(count) = validation::check::check(archive) else {
-        return &archive[0..0];
-    };
-    if count == 0 {
-        return &archive[0..0];
-    }
-    let record = Position(archive.len() - Layout::RECORD);
-    btree::map::get_bytes(archive, pointed(archive, record), key)
+    readers::lookup_bytes(archive, Layout::COMMON, key)
 }
 
 // Writes keys and values in the order of `visit` until the shorter list is full.
@@ -126,17 +71,7 @@ pub fn walk(archive: &[u8], keys: &mut [u64], values: &mut [u64]) -> WalkAnswer
     ensures keys { λ r. ⌜ now (keys .exit) ≡ walkKeys layout32 standard (now (archive .entry)) (now (keys .entry)) (now (values .entry)) ⌝ }
     ensures values { λ r. ⌜ now (values .exit) ≡ walkValues layout32 standard (now (archive .entry)) (now (keys .entry)) (now (values .entry)) ⌝ }
 {
-    match validation::check::check(archive) {
-        CheckAnswer::Refused(why) => WalkAnswer::Refused(why),
-        CheckAnswer::Accepted(count) => {
-            if count == 0 {
-                return WalkAnswer::Walked(0, 0);
-            }
-            let record = Position(archive.len() - Layout::RECORD);
-            let written = btree::map::visit(archive, pointed(archive, record), keys, values);
-            WalkAnswer::Walked(written, count)
-        }
-    }
+    readers::walk(archive, Layout::COMMON, keys, values)
 }
 
 // Of a certified archive, writes keys and values of the entries that meet both bounds until the shorter list is full, and counts them all.
@@ -154,18 +89,7 @@ pub fn range(
     ensures values { λ r. ⌜ now (values .exit)
         ≡ rangeValues layout32 standard (now (archive .entry)) lower upper (now (keys .entry)) (now (values .entry)) ⌝ }
 {
-    match certify(archive) {
-        CheckAnswer::Refused(why) => RangeAnswer::Refused(why),
-        CheckAnswer::Accepted(count) => {
-            if count == 0 {
-                return RangeAnswer::Matched(0, 0);
-            }
-            let record = Position(archive.len() - Layout::RECORD);
-            let root = pointed(archive, record);
-            let found = ranges::iter::range_with(archive, root, lower, upper, keys, values);
-            RangeAnswer::Matched(found.written, found.matching)
-        }
-    }
+    readers::range(archive, Layout::COMMON, lower, upper, keys, values)
 }
 
 // The range of a column query, for one eye of one examination, by the packing of the archive's keys. Of keys that store x plus 128, the entries with x

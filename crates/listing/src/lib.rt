@@ -1,7 +1,7 @@
 // The text of an input: a line that says whether it is certified, open or refused, and of an accepted archive each entry of the walk, key and value
 // on a line. More than 65,536 bytes are refused. The text is `printed` of specs/Listing.antt.
-use fieldmap::WalkAnswer;
 use format::CheckAnswer;
+use readers::WalkAnswer;
 use text::put;
 use text::put_decimal;
 ghost use mathlib.Core.Path.{_≡_};

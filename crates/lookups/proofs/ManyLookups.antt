@@ -11,7 +11,7 @@ use Rattle.format.specs.declared.Found.the-variants.{Entry as found, Nothing as
 use Rattle.format.specs.Layout.{Layout, Limits, nested, recordSize}
 use Rattle.format.specs.Refusal.{gives, refuses}
 use Rattle.format.specs.RelPtr.{at, target}
-use Rattle.format.specs.Check.{counted, checkArchive}
+use Rattle.format.specs.Check.{Checked, accepted, refused, counted, checkArchive}
 use Rattle.format.specs.Lookup.{lookup, lookupAt}
 use Rattle.format.specs.Laws.Calls.Accepted.{gives-inv, refuses-inv, lookup-accepted, lookup-none, lookup-gives}
 use Rattle.lookups.specs.Many.{Many, many, store, firstMany, sought, allMany, manyCall, manyValues}
@@ -76,6 +76,21 @@ gives-one : {A : Type 0} (a b : A) → gives a ≡ gives b → a ≡ b
 gives-one a b e = cc
 
 module _ (L : Layout) (M : Limits) (s : List ℕ) where
+  -- No more are found than there are keys.
+  pub many-most : (ks vs : List ℕ) (n : ℕ) → manyCall L M s ks vs ≡ gives n → n ≤ length ks
+  unfolding manyCall
+  many-most ks vs n e = go (checkArchive L M s) refl
+    where
+      go : (c : Checked) → checkArchive L M s ≡ c → n ≤ length ks
+      go (accepted k t) ec =
+          let all = allMany (lookup L M s) ks vs .found in
+          let z : all ≡ n = gives-one all n (rw (ec, manyCall) at e) in
+          omega (arith, z, most (lookup L M s) ks vs (sought ks vs))
+      go (refused r) ec =
+          let z : refuses r ≡ gives n = rw (ec, manyCall) at e in
+          let o : _≡_ {A = ℕ} 0 1 = cc in
+          absurd (omega arith)
+
   module _ (r : ℕ) (e : counted (checkArchive L M s) ≡ refuses r) (ks vs : List ℕ) where
     pub many-refuses : manyCall L M s ks vs ≡ refuses r
     unfolding manyCall

@@ -9,7 +9,7 @@ ghost use mathlib.Core.Path.{_≡_};
 ghost use mathlib.Core.Bool.{true, false};
 ghost use Prim.Native.Nat.{ℕ, _+_, _*_, _≤_, _<_};
 ghost use lib.ListN.{length};
-ghost use Rattle.format.specs.Layout.{layout32, standard, pointer, headSize, leafSize, innerSize};
+ghost use Rattle.format.specs.Layout.{layoutOf, layout32, standard, pointer, headSize, leafSize, innerSize};
 ghost use Rattle.format.specs.Refusal.{gives};
 ghost use Rattle.format.specs.Check.{counted};
 ghost use Rattle.format.specs.Certify.{certify};
@@ -195,7 +195,7 @@ fn node_keys(
 }
 
 // The recorded count of an archive at the common layout that is certified, or 0.
-pub fn quick_certify(archive: &[u8]) -> usize
+fn root_keys(archive: &[u8]) -> usize
     ensures { λ r. ⌜ (0 < r → counted (certify layout32 standard (now (archive .entry))) ≡ gives r) ⌝ }
 {
     let length = archive.len();
@@ -229,4 +229,14 @@ pub fn quick_certify(archive: &[u8]) -> usize
         return 0;
     }
     count
+}
+
+// The same at any layout: it knows the common one alone.
+pub fn quick_certify(archive: &[u8], layout: Layout) -> usize
+    ensures { λ r. ⌜ (0 < r → counted (certify (layoutOf layout) standard (now (archive .entry))) ≡ gives r) ⌝ }
+{
+    if layout.is_common() {
+        return root_keys(archive);
+    }
+    0
 }

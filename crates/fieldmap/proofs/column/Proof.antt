@@ -13,7 +13,7 @@ use Rattle.format.specs.Laws.Calls.Certified.{column-ranges, column-keys-ranges
 use Rattle.format.specs.Laws.Calls.Certified.{column-uncertified, column-refused, column-keys-refused, column-values-refused}
 use Rattle.perimetry.specs.declared.column.Columns.{Columns}
 use Rattle.perimetry.specs.Answers.{columnsOf}
-use Rattle.fieldmap.proofs.Told.{accepted-told, refused-told}
+use Rattle.readers.proofs.Told.{accepted-told, refused-told}
 use Rattle.fieldmap.proofs.column.Statement.{statement}
 use Rattle.fieldmap.proofs.column.Tie as tie
 

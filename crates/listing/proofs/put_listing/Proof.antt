@@ -5,7 +5,7 @@ use Prim.Native.Nat.{ℕ, _≤_}
 use native.Mathlib.Omega.{arith}
 use lib.ListN.{length, replicate, length-replicate}
 use borrow.Author.Needs.{needs}
-use Rattle.fieldmap.specs.Answers.{walkOf}
+use Rattle.readers.specs.Answers.{walkOf}
 use Rattle.listing.specs.Listing.{titleLine}
 use Rattle.text.proofs.Texts.{stays}
 use Rattle.listing.proofs.Listed.{listing-refused, Listed, listed, joined}

@@ -1,6 +1,6 @@
 -- `listing::title_of` meets its contract. Assumes nothing.
 use mathlib.Core.Path.{sym, ap, _∙_}
-use Rattle.fieldmap.proofs.Told.{accepted-told, refused-told}
+use Rattle.readers.proofs.Told.{accepted-told, refused-told}
 use Rattle.listing.specs.declared.Title.the-variants.{Refused}
 use borrow.Author.Needs.{needs}
 use Rattle.listing.proofs.Texts.{title-certified, title-open, title-refused}

@@ -1,7 +1,7 @@
 -- `exports::read::fieldmap_lookup` meets its contract. Assumes nothing.
 use mathlib.Core.Path.{refl, _∙_, sym, ap}
 use borrow.Author.Needs.{needs}
-use Rattle.fieldmap.specs.Answers.{lookupOf}
+use Rattle.readers.specs.Answers.{lookupOf}
 use Rattle.codes.specs.Answers.{foundFlag, entryValue, entryPosition}
 use Rattle.codes.proofs.Coded.{answers-given, answers-refused, found-stored, nothing-stored, refused-stored}
 use Rattle.exports.proofs.read.fieldmap_lookup.Statement.{statement}

@@ -1,7 +1,7 @@
 -- `exports::read::fieldmap_lookup_bytes` meets its contract. Assumes nothing.
 use mathlib.Core.Path.{refl, _∙_, sym, ap}
 use borrow.Author.Needs.{needs}
-use Rattle.fieldmap.specs.Answers.{lookupOf}
+use Rattle.readers.specs.Answers.{lookupOf}
 use Rattle.format.specs.Layout.{layout32, standard}
 use Rattle.codes.specs.Answers.{partLength, entryPosition}
 use Rattle.codes.proofs.Coded.{answers-given, answers-refused, returned, no-bytes}

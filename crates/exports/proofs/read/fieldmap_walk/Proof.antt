@@ -4,7 +4,7 @@ use native.Mathlib.Omega.{arith}
 use borrow.Author.Needs.{needs}
 use Rattle.format.specs.Layout.{layout32, standard}
 use Rattle.exports.proofs.Numbers.{walk-fits}
-use Rattle.fieldmap.specs.Answers.{walkOf}
+use Rattle.readers.specs.Answers.{walkOf}
 use Rattle.codes.specs.Answers.{walkWritten, walkCount}
 use Rattle.codes.proofs.Coded.{answers-given, answers-refused, returned, store-given, store-refused}
 use Rattle.exports.proofs.read.fieldmap_walk.Statement.{statement}

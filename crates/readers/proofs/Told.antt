@@ -2,14 +2,13 @@
 -- Assumes nothing.
 use mathlib.Core.Path.{_≡_, sym, ap, _∙_}
 use mathlib.Core.List.{List}
-use Prim.Native.Nat.{ℕ, _+_, _-_, _≤_}
-use native.Mathlib.Omega.{arith}
+use Prim.Native.Nat.{ℕ, _-_, _≤_}
 use lib.ListN.{length}
 use Rattle.format.specs.declared.CheckAnswer.{CheckAnswer}
 use Rattle.format.specs.declared.CheckAnswer.the-variants.{Accepted, Refused}
 use Rattle.format.specs.declared.Refusal.{Refusal}
 use Rattle.format.specs.Refusal.{Answer, gives, refuses, number, checkOf}
-use Rattle.format.specs.Layout.{layout32, standard, pointer, recordSize}
+use Rattle.format.specs.Layout.{Layout, standard, recordSize}
 use Rattle.format.specs.Check.{counted, checkArchive}
 use Rattle.format.specs.Readable.{Down}
 use Rattle.format.specs.Laws.Calls.Accepted.{room-for, root-back}
@@ -20,7 +19,7 @@ accepted-told h e = sym e ∙ ap checkOf h
 pub refused-told : {a : Answer ℕ} {r : CheckAnswer} {why : Refusal} → r ≡ Refused why → checkOf r ≡ a → a ≡ refuses (number why)
 refused-told h e = sym e ∙ ap checkOf h
 
--- The record's pointer lies in the archive and leads back.
-pub root-requires : (s : List ℕ) (n : ℕ) → counted (checkArchive layout32 standard s) ≡ gives n → (n ≡ 0 → ⊥)
-    → (length s - recordSize layout32 + pointer layout32 ≤ length s) × Down layout32 s (length s - recordSize layout32) (length s - recordSize layout32)
-root-requires s n accepted some = (omega (arith, room-for layout32 standard s n accepted), root-back layout32 standard s n accepted some)
+-- The record lies in the archive, and its pointer leads back.
+pub root-requires : (L : Layout) (s : List ℕ) (n : ℕ) → counted (checkArchive L standard s) ≡ gives n → (n ≡ 0 → ⊥)
+    → (recordSize L ≤ length s) × Down L s (length s - recordSize L) (length s - recordSize L)
+root-requires L s n accepted some = (room-for L standard s n accepted, root-back L standard s n accepted some)

@@ -1,0 +1,61 @@
+-- `readers::lookup_bytes` meets its contract. Assumes nothing.
+use mathlib.Core.Path.{refl, sym, _∙_}
+use native.Mathlib.Omega.{arith}
+use Rattle.format.specs.Layout.{standard}
+use Rattle.format.specs.Laws.Calls.Accepted.{node, bytes-refuses, bytes-none, bytes-gives, place-refuses, place-none, place-gives}
+use Rattle.btree.proofs.Finds.{same-place}
+use borrow.Author.Needs.{needs}
+use Rattle.readers.proofs.Told.{accepted-told, refused-told, root-requires}
+use Rattle.readers.proofs.lookup_bytes.Statement.{statement}
+use Rattle.readers.proofs.lookup_bytes.Tie as tie
+
+returns : tie.Need-returns
+returns c =
+    let told : tie.After-enum-told = search in
+    let refused = refused-told (told .enum-told .given .1) (told .before .before .check .ensures) in
+    (same-place refl (omega arith) ∙ sym (place-refuses _ standard _ _ refused _ _), sym (bytes-refuses _ standard _ _ refused _))
+
+returns-2 : tie.Need-returns-2
+returns-2 c =
+    let told : tie.After-count = search in
+    let accepted = accepted-told (told .count .given .1) (told .before .before .check .ensures) in (
+      same-place refl (omega arith) ∙ sym (place-none _ standard _ _ accepted (search) _ _),
+      sym (bytes-none _ standard _ _ accepted (search) _),
+    )
+
+root-of-requires : tie.Need-root-of-requires
+root-of-requires c κs = root-requires _ _ _ (accepted-told (c .before .before .count .given .1) (search)) (search)
+
+get-bytes-requires : tie.Need-get-bytes-requires
+get-bytes-requires c κs =
+    let told : tie.After-count = search in
+    (search needs, node _ standard _ _ (accepted-told (told .count .given .1) (search)) (search) _ (c .root-of .ensures))
+
+returns-3 : tie.Need-returns-3
+returns-3 c =
+    let told : tie.After-count = search in
+    let accepted = accepted-told (told .count .given .1) (told .before .before .check .ensures) in
+    let leads = c .before .root-of .ensures in
+    let (place, bytes) = c .get-bytes .ensures in (
+      place ∙ sym (place-gives _ standard _ _ accepted (search) _ leads _ _),
+      bytes ∙ sym (bytes-gives _ standard _ _ accepted (search) _ leads _),
+    )
+
+pub lookup-bytes-spec : {M : Type 1} → statement M
+lookup-bytes-spec =
+    tie.close
+    (tie.spec
+    (λ c κs. search needs)
+    (search needs)
+    (search needs)
+    (search needs)
+    (search needs)
+    (search needs)
+    returns
+    (search needs)
+    (search needs)
+    (search needs)
+    returns-2
+    root-of-requires
+    get-bytes-requires
+    returns-3)
