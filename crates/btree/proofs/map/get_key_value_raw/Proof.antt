@@ -1,9 +1,9 @@
 -- `btree::map::get_key_value_raw` meets its contract. Assumes nothing.
 use Prim.Native.Nat.{_+_, _≤_, _<_}
-use mathlib.Core.Path.{_≡_, refl}
+use mathlib.Core.Path.{_≡_, refl, sym, ap, subst, _∙_}
 use native.Mathlib.Omega.{arith}
 use lib.ListN.{length}
-use Rattle.format.specs.Layout.{layoutOf, leafSize, standard, nested}
+use Rattle.format.specs.Layout.{Layout, layoutOf, leafSize, standard, nested}
 use Rattle.format.specs.Lookup.{lookupAt}
 use Rattle.format.specs.Readable.{Node}
 use Rattle.format.specs.Laws.Read.Node.{node-room, as-leaf, as-inner, child-falls}
@@ -20,6 +20,19 @@ Inv-loop archive layout key current₀ current =
 
 abbrev μ-loop : tie.MeasureT-loop
 μ-loop archive layout key current₀ current = current .0
+
+common-get-requires : tie.Need-common-get-requires Inv-loop μ-loop
+common-get-requires c κs =
+    let start : tie.Start Inv-loop μ-loop = search in
+    subst (λ (L : Layout). Node L standard (start .args .archive .now) (start .args .pos .0)) (c .before .is-common .ensures (c .if1 .taken)) (start .pre .1)
+
+returns : tie.Need-returns Inv-loop μ-loop
+returns c =
+    let common : tie.Then1 Inv-loop μ-loop = search in
+    let start : tie.Start Inv-loop μ-loop = search in
+    c .common-get .ensures
+    ∙ ap (λ (L : Layout). lookupAt L (start .args .archive .now) (start .args .key) (nested standard) (start .args .pos .0))
+    (sym (common .before .is-common .ensures (common .if1 .taken)))
 
 loop-holds : tie.Need-loop-holds Inv-loop μ-loop
 loop-holds c = (search node-room, search, refl)
@@ -38,28 +51,29 @@ slot-requires c κs =
     let start : tie.Start Inv-loop μ-loop = search in
     (search needs, omega arith, search (leaf-slot (layoutOf (start .args .layout)) standard))
 
-returns : tie.Need-returns Inv-loop μ-loop
-returns c = search leaf-hit
-
 returns-2 : tie.Need-returns-2 Inv-loop μ-loop
-returns-2 c = search leaf-miss
+returns-2 c = search leaf-hit
+
+returns-3 : tie.Need-returns-3 Inv-loop μ-loop
+returns-3 c = search leaf-miss
 
 slot-requires-2 : tie.Need-slot-requires-2 Inv-loop μ-loop
 slot-requires-2 c κs = (search needs, omega arith, search seek-slot)
 
-returns-3 : tie.Need-returns-3 Inv-loop μ-loop
-returns-3 c = search inner-hit
+returns-4 : tie.Need-returns-4 Inv-loop μ-loop
+returns-4 c = search inner-hit
 
 child-at-requires : tie.Need-child-at-requires Inv-loop μ-loop
 child-at-requires c κs = (search needs, search as-inner, search seek-child)
 
-returns-4 : tie.Need-returns-4 Inv-loop μ-loop
-returns-4 c = search inner-miss
+returns-5 : tie.Need-returns-5 Inv-loop μ-loop
+returns-5 c = search inner-miss
 
 -- The child that the loop goes on with lies lower, and is accepted.
 down : (c : tie.After-q Inv-loop μ-loop)
     → let head : tie.At-loop Inv-loop μ-loop = search in
-    let a = head .before .before .args in
+    let start : tie.Start Inv-loop μ-loop = search in
+    let a = start .args in
     let q = c .q .given .0 .0 .0 in
     (q < head .loop .current .0) × Node (layoutOf (a .layout)) standard (a .archive .now) q
 down c =
@@ -78,23 +92,26 @@ get-key-value-raw-spec =
     (tie.spec
     Inv-loop
     μ-loop
+    (search needs)
+    common-get-requires
+    returns
     loop-holds
     (search needs)
     leaf-len-requires
     seek-slot-requires
     (search needs)
     slot-requires
-    returns
-    (search needs)
     returns-2
+    (search needs)
+    returns-3
     (search needs)
     (search needs)
     slot-requires-2
-    returns-3
+    returns-4
     (search needs)
     child-at-requires
     (search needs)
     (search needs)
-    returns-4
+    returns-5
     loop-less
     loop-again)

@@ -6,8 +6,8 @@ use lib.ListN.{length}
 use Rattle.format.specs.Layout.{Layout, layoutOf, pointer}
 use Rattle.format.specs.Node.{child}
 use Rattle.format.specs.Readable.{childAt, InnerNode}
-use Rattle.format.specs.Laws.Numbers.Widths.{reach}
-use Rattle.btree.proofs.Back.{field-is, field-absent, field-down, field-there}
+use Rattle.format.specs.Laws.Numbers.Widths.{reach, field-is}
+use Rattle.btree.proofs.Back.{field-absent, field-down, field-there}
 use borrow.Author.Needs.{needs}
 use Rattle.btree.proofs.node.child_at.Statement.{statement}
 use Rattle.btree.proofs.node.child_at.Tie as tie
@@ -38,7 +38,7 @@ module _ (c : tie.After-pointer) where
   field = start .args .pos .0 + c .before .node .result + c .pointer .result * start .args .i
 
   same : field ≡ child L (start .args .pos .0) (start .args .i)
-  same = field-is L _ _ (c .before .node .ensures .0) (c .pointer .ensures .0)
+  same = field-is L _ _ _ _ (c .before .node .ensures .0) (c .pointer .ensures .0)
 
   near : field + pointer L ≤ length (start .args .archive .now)
   near = omega (arith, same, reach L _ _ _ (start .pre .1 .room) (start .pre .2))

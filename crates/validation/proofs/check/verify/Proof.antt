@@ -49,31 +49,31 @@ returns-3 c =
 returns-4 : tie.Need-returns-4
 returns-4 c =
     let told : tie.After-enum-told = search in
-    let answer : tie.After-check-node-rel-ptr = search in
+    let answer : tie.After-check-root-rel-ptr = search in
     let some : tie.Else1 = search in
     let read : tie.After-uint-at = search in
     let pre = start read .pre in
-    root-refused _ _ _ (pre .2) (count read) (some .if1 .left) (pre .5) (pre .3) (pre .4) (answer .check-node-rel-ptr .ensures)
+    root-refused _ _ _ (pre .2) (count read) (some .if1 .left) (pre .5) (pre .3) (pre .4) (answer .check-root-rel-ptr .ensures)
     (told .enum-told .given .1) (c .refused-node .ensures)
 
 returns-5 : tie.Need-returns-5
 returns-5 c =
     let told : tie.After-root = search in
-    let answer : tie.After-check-node-rel-ptr = search in
+    let answer : tie.After-check-root-rel-ptr = search in
     let some : tie.Else1 = search in
     let read : tie.After-uint-at = search in
     let pre = start read .pre in
-    root-differs _ _ _ (pre .2) (count read) (some .if1 .left) (pre .5) (pre .3) (pre .4) (answer .check-node-rel-ptr .ensures)
+    root-differs _ _ _ (pre .2) (count read) (some .if1 .left) (pre .5) (pre .3) (pre .4) (answer .check-root-rel-ptr .ensures)
     (told .root .given .1) (c .if4 .taken)
 
 returns-6 : tie.Need-returns-6
 returns-6 c =
     let told : tie.After-root = search in
-    let answer : tie.After-check-node-rel-ptr = search in
+    let answer : tie.After-check-root-rel-ptr = search in
     let some : tie.Else1 = search in
     let read : tie.After-uint-at = search in
     let pre = start read .pre in
-    root-entries _ _ _ (pre .2) (count read) (some .if1 .left) (pre .5) (pre .3) (pre .4) (answer .check-node-rel-ptr .ensures)
+    root-entries _ _ _ (pre .2) (count read) (some .if1 .left) (pre .5) (pre .3) (pre .4) (answer .check-root-rel-ptr .ensures)
     (told .root .given .1) (c .if4 .left)
 
 pub verify-spec : {M : Type 1} → statement M

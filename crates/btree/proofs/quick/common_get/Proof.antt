@@ -1,0 +1,98 @@
+-- `btree::quick::common_get` meets its contract. Assumes nothing.
+use Prim.Native.Nat.{_+_, _≤_, _<_}
+use mathlib.Core.Path.{_≡_, refl}
+use native.Mathlib.Omega.{arith}
+use lib.ListN.{length}
+use Rattle.format.specs.Layout.{layout32, leafSize, standard, nested}
+use Rattle.format.specs.Lookup.{lookupAt}
+use Rattle.format.specs.Readable.{Node}
+use Rattle.format.specs.Laws.Read.Node.{node-room, as-leaf, as-inner, child-falls}
+use Rattle.btree.proofs.Finds.{seek-slot, seek-child, leaf-count, leaf-slot, leaf-hit, leaf-miss, inner-hit, inner-miss, inner-down}
+use borrow.Author.Needs.{needs}
+use Rattle.btree.proofs.quick.common_get.Statement.{statement}
+use Rattle.btree.proofs.quick.common_get.Tie as tie
+
+abbrev Inv-loop : tie.InvT-loop
+Inv-loop archive key current₀ current =
+    (current .0 + leafSize layout32 ≤ length archive) × Node layout32 standard archive (current .0)
+    × (lookupAt layout32 archive key (nested standard) (current .0) ≡ lookupAt layout32 archive key (nested standard) (current₀ .0))
+
+abbrev μ-loop : tie.MeasureT-loop
+μ-loop archive key current₀ current = current .0
+
+loop-holds : tie.Need-loop-holds Inv-loop μ-loop
+loop-holds c = (search node-room, search, refl)
+
+common-len-requires : tie.Need-common-len-requires Inv-loop μ-loop
+common-len-requires c κs = search as-leaf
+
+seek-slot-requires : tie.Need-seek-slot-requires Inv-loop μ-loop
+seek-slot-requires c κs =
+    let head : tie.At-loop Inv-loop μ-loop = search in
+    let few = leaf-count _ standard _ _ (head .loop .inv .1) (search) (c .common-len .ensures) in
+    omega arith
+
+slot-requires : tie.Need-slot-requires Inv-loop μ-loop
+slot-requires c κs =
+    (search needs, omega arith, search (leaf-slot layout32 standard))
+
+returns : tie.Need-returns Inv-loop μ-loop
+returns c = search leaf-hit
+
+returns-2 : tie.Need-returns-2 Inv-loop μ-loop
+returns-2 c = search leaf-miss
+
+slot-requires-2 : tie.Need-slot-requires-2 Inv-loop μ-loop
+slot-requires-2 c κs = (search needs, omega arith, search seek-slot)
+
+returns-3 : tie.Need-returns-3 Inv-loop μ-loop
+returns-3 c = search inner-hit
+
+common-child-requires : tie.Need-common-child-requires Inv-loop μ-loop
+common-child-requires c κs = (search as-inner, search seek-child)
+
+returns-4 : tie.Need-returns-4 Inv-loop μ-loop
+returns-4 c = search inner-miss
+
+-- The child that the loop goes on with lies lower, and is accepted.
+down : (c : tie.After-q Inv-loop μ-loop)
+    → let head : tie.At-loop Inv-loop μ-loop = search in
+    let a = head .before .before .args in
+    let q = c .q .given .0 .0 .0 in
+    (q < head .loop .current .0) × Node layout32 standard (a .archive .now) q
+down c =
+    let read : tie.After-common-child Inv-loop μ-loop = search in
+    child-falls _ _ _ _ refl (search) (search) (search seek-child) (read .common-child .ensures) (c .q .given .1)
+
+loop-less : tie.Need-loop-less Inv-loop μ-loop
+loop-less c = down (c .before) .0
+
+loop-again : tie.Need-loop-again Inv-loop μ-loop
+loop-again c = let d = down (c .before) .1 in (node-room _ _ _ d, d, search inner-down)
+
+pub common-get-spec : {M : Type 1} → statement M
+common-get-spec =
+    tie.close
+    (tie.spec
+    Inv-loop
+    μ-loop
+    loop-holds
+    (search needs)
+    common-len-requires
+    seek-slot-requires
+    (search needs)
+    slot-requires
+    returns
+    (search needs)
+    returns-2
+    (search needs)
+    (search needs)
+    slot-requires-2
+    returns-3
+    (search needs)
+    common-child-requires
+    (search needs)
+    (search needs)
+    returns-4
+    loop-less
+    loop-again)
