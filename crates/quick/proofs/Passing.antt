@@ -3,7 +3,7 @@ use mathlib.Core.Path.{_≡_, refl, sym, ap, _∙_}
 use mathlib.Core.Bool.{Bool, true, false}
 use mathlib.Core.List.{List}
 use Prim.Native.Nat.{ℕ, zero, suc, _+_, _-_, _*_, _%_, _<_, _≤_}
-use native.Mathlib.Nat.{sub-zero, zero-add, add-assoc}
+use native.Mathlib.Nat.{sub-zero, add-zero, zero-add, add-assoc}
 use native.Mathlib.Numerals.{add-one}
 use native.Mathlib.Omega.{arith}
 use lib.Dec.{ltb}
@@ -106,6 +106,9 @@ module _ (L : Layout) (s : List ℕ) where
           let a = w .all in
           let g = w .few in
           record { low = b .1; few = omega (arith, b .0); under = w .under + n; all = omega arith; rest = more-rest; whole = more-whole }
+
+    pub absent-passed : {i from total : ℕ} → SoFar i from total → leAt (pointer L) s (child L p i) ≡ 1 → i ≤ L .entries → SoFar (i + 1) from total
+    absent-passed {total = total} w e h = rw (← add-zero total) (one-passed w (absent-child _ _ _ d e) h)
 
     pub all-passed : {i from total : ℕ} → SoFar i from total → L .entries < i → Below L s d start p total
     all-passed w h = record { under = w .under; children = w .whole h; all = w .all }

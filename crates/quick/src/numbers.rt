@@ -10,7 +10,7 @@ use fields::rel_ptr::ones;
 use format::Layout;
 use format::Limits;
 ghost use mathlib.Core.Path.{_≡_};
-ghost use Prim.Native.Nat.{suc, _+_, _≤_, _<_, _^_};
+ghost use Prim.Native.Nat.{ℕ, suc, _+_, _≤_, _<_, _^_};
 ghost use lib.ListN.{length};
 ghost use Rattle.format.specs.Layout.{layoutOf, bytes, signBits, pointer, innerSize};
 ghost use Rattle.format.specs.Bytes.{leAt};
@@ -36,6 +36,48 @@ fn inner_of(w: usize, e: usize) -> usize
     ensures { λ r. ⌜ (r ≡ innerSize (numbered w e)) × (r ≤ 376) ⌝ }
 {
     (8 + 16 * e + w * (e + 1) + 7) / 8 * 8
+}
+
+// As `quick_leaves`.
+fn leaves_below(archive: &[u8], w: usize, e: usize, ones: usize, start: usize, at: usize) -> usize
+    requires { ⌜ Numbers w e ones × (start ≤ at) × (at + innerSize (numbered w e) ≤ length (now archive)) ⌝ }
+    ensures { λ r. ⌜ ((d : ℕ) → 0 < d → 0 < r → Below (numbered w e) (now (archive .entry)) d start at r) ⌝ }
+{
+    let first = at + (8 + 16 * e);
+    let mut from = start;
+    let mut total = e;
+    for i in 0..e + 1 {
+        let field = first + w * i;
+        let offset = number_at(archive, field, w);
+        if offset == 1 {
+            continue;
+        }
+        let back = ones - offset;
+        if offset <= back {
+            return 0;
+        }
+        if field - from <= back {
+            return 0;
+        }
+        let p = field - 1 - back;
+        let after = p + (8 + 16 * e);
+        if at < after + 8 {
+            return 0;
+        }
+        if p % Layout::NODE_ALIGN != 0 {
+            return 0;
+        }
+        if archive[p] != 0 {
+            return 0;
+        }
+        let count = number_at(archive, after, w);
+        if count > e {
+            return 0;
+        }
+        total += count;
+        from = after + 8;
+    }
+    total
 }
 
 // As `quick_child`.
@@ -107,6 +149,10 @@ fn node_below(
 {
     if depth == 0 {
         return 0;
+    }
+    let leaves = leaves_below(archive, w, e, ones, start, at);
+    if 0 < leaves {
+        return leaves;
     }
     let first = at + (8 + 16 * e);
     let mut from = start;

@@ -1,13 +1,12 @@
 -- `quick::constants::quick_leaves` meets its contract. Assumes nothing.
 use mathlib.Core.Path.{refl, sym, _∙_}
 use Prim.Native.Nat.{ℕ, _+_, _-_, _*_, _<_, _≤_}
-use native.Mathlib.Nat.{add-zero}
 use native.Mathlib.Omega.{arith}
 use borrow.Author.Needs.{needs}
 use Rattle.format.specs.Layout.{layout32, standard}
 use Rattle.format.specs.Node.{child}
 use Rattle.format.specs.NodeRelation.{ChildOk, Holds}
-use Rattle.quick.proofs.Passing.{leads32, absent-child, leaf-child, SoFar, none-passed, one-passed, all-passed}
+use Rattle.quick.proofs.Passing.{leads32, leaf-child, SoFar, none-passed, one-passed, absent-passed, all-passed}
 use Rattle.quick.proofs.constants.quick_leaves.Statement.{statement}
 use Rattle.quick.proofs.constants.quick_leaves.Tie as tie
 
@@ -55,8 +54,7 @@ skipped : (c : tie.Then1 Inv-loop μ-loop) (d : ℕ) → 0 < d
     SoFar layout32 (a .archive .now) d (a .at) (a .start) (head .loop .i + 1) (head .loop .from) (head .loop .total)
 skipped c d some =
     let head : tie.At-loop Inv-loop μ-loop = search in
-    rw (← add-zero (head .loop .total))
-    (one-passed layout32 _ _ _ _ (head .loop .inv .3 d some) (absent-child layout32 _ _ _ _ d (sym (c .before .u32-at .ensures) ∙ c .if1 .taken)) (omega arith))
+    absent-passed layout32 _ _ _ _ (head .loop .inv .3 d some) (sym (c .before .u32-at .ensures) ∙ c .if1 .taken) (omega arith)
 
 loop-holds : tie.Need-loop-holds Inv-loop μ-loop
 loop-holds c = (omega arith, omega arith, omega arith, λ d some. none-passed layout32 _ _ _ _ (omega arith))

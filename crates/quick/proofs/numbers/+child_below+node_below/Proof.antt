@@ -20,6 +20,7 @@ use Rattle.quick.proofs.numbers.node_below.Kinds as node-kinds
 use Rattle.quick.proofs.numbers.+child_below+node_below.Lts-node_below as node-lts
 use Rattle.quick.proofs.numbers.number_at.Reads as number-at
 use Rattle.quick.proofs.numbers.inner_of.Reads as inner-of
+use Rattle.quick.proofs.numbers.leaves_below.Reads as leaves-below
 use Rattle.quick.proofs.numbers.+child_below+node_below.{statement}
 use Rattle.quick.proofs.numbers.+child_below+node_below.Tie.{close}
 
@@ -101,14 +102,14 @@ child-returns-11 t c =
 -- ---- node_below
 
 abbrev Inv-loop : node-lts.InvT-loop
-Inv-loop archive w e ones start at depth first from₀ total₀ i₀ i-end from total i =
+Inv-loop archive w e ones start at depth leaves first from₀ total₀ i₀ i-end from total i =
     (i ≤ e + 1) × (from ≤ at) × (total + start ≤ from + e) × (first ≡ at + (8 + 16 * e)) × SoFar (numbered w e) archive depth at start i from total
 
 abbrev μ-loop : node-lts.MeasureT-loop
-μ-loop archive w e ones start at depth first from₀ total₀ i₀ i-end from total i = e + 1 - i
+μ-loop archive w e ones start at depth leaves first from₀ total₀ i₀ i-end from total i = e + 1 - i
 
 abbrev node-calls : ℕ → node-lts.Claims
-node-calls t = (child-below t, child.Post)
+node-calls t = (leaves-below.Asked, leaves-below.Learnt, child-below t, child.Post)
 
 -- A place or a need of `node_below`.
 abbrev In-node : ℕ
@@ -156,8 +157,8 @@ node-add-total t c = let h = next t c .few in let l = next t c .low in omega ari
 node-loop-again : (t : ℕ) → In-node t node-lts.Need-loop-again
 node-loop-again t c = let h = next t c in (omega arith, h .low, h .few, search needs, h)
 
-node-returns-3 : (t : ℕ) → In-node t node-lts.Need-returns-3
-node-returns-3 t c = λ h. all-passed _ _ _ _ _ (c .before .loop .inv .4) (omega arith)
+node-returns-4 : (t : ℕ) → In-node t node-lts.Need-returns-4
+node-returns-4 t c = λ h. all-passed _ _ _ _ _ (c .before .loop .inv .4) (omega arith)
 
 pub +child-below+node-below-spec : {M : Type 1} → statement M
 +child-below+node-below-spec = close μ-child μ-node (λ t. child-lts.spec (child-calls t) (child-at t) child.Post
@@ -194,6 +195,8 @@ pub +child-below+node-below-spec : {M : Type 1} → statement M
     Inv-loop
     μ-loop
     (λ c. λ h. absurd (omega arith))
+    (λ c κs. search needs)
+    (λ c. λ h. c .before .leaves-below .ensures _ (omega arith) h)
     (λ c. search needs)
     (λ c. search needs)
     (λ c. search needs)
@@ -209,4 +212,4 @@ pub +child-below+node-below-spec : {M : Type 1} → statement M
     (λ c. search needs)
     (λ c. search needs)
     (node-loop-again t)
-    (node-returns-3 t)
+    (node-returns-4 t)
