@@ -2,14 +2,14 @@
 use mathlib.Core.Path.{_≡_, refl, sym, ap, _∙_}
 use mathlib.Core.Bool.{Bool, true, false}
 use mathlib.Core.List.{List}
-use Prim.Native.Nat.{ℕ, suc, _+_, _-_, _*_, _^_, _≤_, _<_}
+use Prim.Native.Nat.{ℕ, suc, _+_, _-_, _^_, _≤_, _<_}
 use native.Mathlib.Decide.{decLt}
 use native.Mathlib.Omega.{arith}
 use lib.IntN.{pos, _+ℤ_}
 use borrow.Author.Tests.{eq-eqb, ne-eqb}
 use Rattle.format.specs.declared.Position.{Position}
 use Rattle.format.specs.declared.Child.the-variants.{At, Absent}
-use Rattle.format.specs.Layout.{Layout, layout32, pointer, headSize, signBits}
+use Rattle.format.specs.Layout.{Layout, layout32, pointer, signBits}
 use Rattle.format.specs.Bytes.{leAt}
 use Rattle.format.specs.Signed.{ofTwos}
 use Rattle.format.specs.RelPtr.{at, below, position, target, absent}

@@ -10,7 +10,7 @@ use readers::ManyAnswer;
 use readers::RangeAnswer;
 use readers::WalkAnswer;
 ghost use mathlib.Core.Path.{_≡_};
-ghost use Prim.Native.Nat.{ℕ, _-_, _≤_, _^_};
+ghost use Prim.Native.Nat.{_-_, _≤_, _^_};
 ghost use Rattle.format.specs.declared.Bound.the-variants.{Included};
 ghost use Rattle.format.specs.Layout.{layoutOf, standard};
 ghost use Rattle.format.specs.Refusal.{number, checkOf};

@@ -2,7 +2,7 @@
 use mathlib.Core.Path.{_≡_, refl, sym, ap, _∙_}
 use mathlib.Core.Bool.{Bool, true, false}
 use mathlib.Core.List.{List, [], _∷_, _++_, append-assoc, append-nil}
-use Prim.Native.Nat.{ℕ, zero, suc, _+_, _-_, _*_, _%_, _<_, _≤_}
+use Prim.Native.Nat.{ℕ, zero, suc, _+_, _-_, _%_, _<_, _≤_}
 use native.Mathlib.Nat.{sub-zero, add-zero, zero-add}
 use native.Mathlib.Numerals.{add-one}
 use native.Mathlib.Omega.{arith}
@@ -10,19 +10,19 @@ use lib.Dec.{ltb, eqb}
 use lib.ListN.{getD, length}
 use borrow.Author.Tests.{le-leb, lt-ltb, ltb-true, ltb-false, eq-eqb, ne-eqb, eqb-true}
 use Rattle.format.specs.declared.Entry.{Entry}
-use Rattle.format.specs.Layout.{Layout, layout32, Limits, nested, pointer, headSize, leafSize, innerSize, recordSize, recordAlign}
+use Rattle.format.specs.Layout.{Layout, Limits, nested, pointer, headSize, leafSize, innerSize, recordSize, recordAlign}
 use Rattle.format.specs.Refusal.{gives}
 use Rattle.format.specs.Bytes.{leAt}
-use Rattle.format.specs.RelPtr.{at, target, absent}
-use Rattle.format.specs.Node.{leaf, inner, kind, child, leafCount, slot}
-use Rattle.format.specs.Check.{accepted, counted, checkNode, root, recorded, checkRoot, checkArchive}
-use Rattle.format.specs.Entries.{slots, listChild, listChildren, listBody, listAt, listOf, list}
+use Rattle.format.specs.RelPtr.{at, absent}
+use Rattle.format.specs.Node.{kind, child, leafCount, slot}
+use Rattle.format.specs.Check.{accepted, counted, root, recorded, checkRoot, checkArchive}
+use Rattle.format.specs.Entries.{slots, listChild, listChildren, listBody, listAt, list}
 use Rattle.format.specs.Certify.{ascendsFrom, ascends, hollow, anyChild, anyChildren, anyBody, hollowAt, hollowOf, certify}
 use Rattle.format.specs.Readable.{LeadsTo}
 use Rattle.format.specs.NodeRelation.{ChildOk, Holds}
 use Rattle.format.specs.Laws.Read.Node.{kind-leaf}
-use Rattle.quick.specs.Quick.{Below, Root}
-use Rattle.quick.proofs.Passing.{kind-inner, absent-child, leaf-child, inner-child, SoFar, none-passed, one-passed, all-passed, root-passes}
+use Rattle.quick.specs.Quick.{Root}
+use Rattle.quick.proofs.Passing.{kind-inner, absent-child, leaf-child, inner-child, SoFar, none-passed, one-passed, all-passed}
 use Rattle.ordered.specs.Order.{ascendsAfter, Leads, keyIn, Rise, LeafKeys, KeysPass, ChildKeys, KeysBelow}
 use Rattle.ordered.specs.declared.Passed.{Passed}
 use Rattle.ordered.specs.declared.Passed.the-variants as passed
@@ -73,7 +73,9 @@ module _ (L : Layout) (s : List ℕ) where
           ∙ ap (λ (i : ℕ). ascendsFrom (keyIn s p i) rest) (omega arith)
 
       go : (b : Bool) → eqb some 1 ≡ b → ascendsAfter some k (slots L s p (suc n) 0 ++ rest) ≡ ascendsFrom (keyIn s p (suc n - 1)) rest
-      go true e = rw (e, ascendsAfter) (one-above k (slot L s p 0) (slots L s p n 1 ++ rest) (rw (slot-key p 0) (r .first (eqb-true some 1 e))) ∙ rw (slot-key p 0) later)
+      go true e =
+          rw (e, ascendsAfter)
+          (one-above k (slot L s p 0) (slots L s p n 1 ++ rest) (rw (slot-key p 0) (r .first (eqb-true some 1 e))) ∙ rw (slot-key p 0) later)
       go false e = rw (e, ascendsAfter) (rw (slot-key p 0) later)
 
   -- ---- a child
@@ -192,7 +194,13 @@ module _ (L : Layout) (s : List ℕ) where
       more-solid l = let left : L .entries - i ≡ 0 = omega arith in w .any h ∙ rw left (c .solid)
 
       pub more-keys : KeysSoFar (i + 1) t (total + n) 1 k₂
-      more-keys = record { passed = one-passed L s d p start (w .passed) (c .ok) h; order = more-order; ordered = more-ordered; any = more-any; solid = more-solid }
+      more-keys = record {
+        passed = one-passed L s d p start (w .passed) (c .ok) h;
+        order = more-order;
+        ordered = more-ordered;
+        any = more-any;
+        solid = more-solid;
+      }
 
     pub below-keys : {i from total some k : ℕ} → KeysSoFar i from total some k → L .entries < i → absent L s (child L p 0) ≡ false
         → KeysBelow L s d start p some₀ k₀ total k

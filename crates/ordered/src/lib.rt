@@ -7,7 +7,7 @@ use format::Layout;
 use format::Limits;
 ghost use mathlib.Core.Path.{_≡_};
 ghost use mathlib.Core.Bool.{true, false};
-ghost use Prim.Native.Nat.{ℕ, _+_, _*_, _≤_, _<_};
+ghost use Prim.Native.Nat.{_+_, _*_, _≤_, _<_};
 ghost use lib.ListN.{length};
 ghost use Rattle.format.specs.Layout.{layoutOf, layout32, standard, pointer, headSize, leafSize, innerSize};
 ghost use Rattle.format.specs.Refusal.{gives};

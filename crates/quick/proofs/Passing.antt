@@ -1,22 +1,18 @@
 -- The nodes that the quick way passes, by their places, and an inner node's children, one after the other. Assumes nothing.
-use mathlib.Core.Path.{_≡_, refl, sym, ap, _∙_}
-use mathlib.Core.Bool.{Bool, true, false}
+use mathlib.Core.Path.{_≡_, refl, ap, _∙_}
 use mathlib.Core.List.{List}
-use Prim.Native.Nat.{ℕ, zero, suc, _+_, _-_, _*_, _%_, _<_, _≤_}
+use Prim.Native.Nat.{ℕ, zero, suc, _+_, _-_, _%_, _<_, _≤_}
 use native.Mathlib.Nat.{sub-zero, add-zero, zero-add, add-assoc}
 use native.Mathlib.Numerals.{add-one}
 use native.Mathlib.Omega.{arith}
-use lib.Dec.{ltb}
 use lib.ListN.{getD}
-use borrow.Author.Tests.{eq-eqb, ne-eqb, ltb-true, ltb-false}
+use borrow.Author.Tests.{eq-eqb, ne-eqb}
 use Rattle.format.specs.Layout.{Layout, layout32, pointer, leafSize, innerSize}
 use Rattle.format.specs.Bytes.{leAt}
 use Rattle.format.specs.RelPtr.{at, target, absent}
-use Rattle.format.specs.Node.{leaf, inner, kind, child, leafCount}
-use Rattle.format.specs.Check.{accepted, checkNode}
-use Rattle.format.specs.Reachable.{Inside}
+use Rattle.format.specs.Node.{inner, kind, child, leafCount}
 use Rattle.format.specs.Readable.{LeadsTo}
-use Rattle.format.specs.NodeRelation.{ChildOk, gone, there, ChildrenOk, last, more, leafOk, innerOk, Holds, Valid}
+use Rattle.format.specs.NodeRelation.{ChildOk, gone, there, ChildrenOk, last, more, leafOk, innerOk, Holds}
 use Rattle.format.specs.Laws.Check.Complete.{complete}
 use Rattle.format.specs.Laws.Read.Node.{kind-leaf}
 use Rattle.fields.proofs.Offsets.{leads-behind}
@@ -64,7 +60,7 @@ module _ (L : Layout) (s : List ℕ) where
             there (to .present) p (to .leads) (rw o (inner-holds (d - 1) w)) (rw (kind-inner p z) e)
 
   -- A child's entries are no more than its bytes.
-  pub child-fits : (d : ℕ) {start end f t n : ℕ} → ChildOk L s (Holds L s d) start end f t n → start ≤ end → (n + start ≤ t) × (t ≤ end)
+  child-fits : (d : ℕ) {start end f t n : ℕ} → ChildOk L s (Holds L s d) start end f t n → start ≤ end → (n + start ≤ t) × (t ≤ end)
   child-fits d c h = child-bytes L s (Holds L s d) (holds-bytes L s d) c h
 
   -- ---- an inner node's children

@@ -3,7 +3,6 @@
 use fields::primitive::u32_at;
 use format::Common;
 use format::Layout;
-ghost use mathlib.Core.Path.{_≡_};
 ghost use Prim.Native.Nat.{ℕ, _+_, _≤_, _<_};
 ghost use lib.ListN.{length};
 ghost use Rattle.format.specs.Layout.{layout32, standard, pointer, innerSize};

@@ -1,5 +1,4 @@
 -- `layouts::layout_of` meets its contract. Assumes nothing.
-use mathlib.Core.Path.{ap₂}
 use native.Mathlib.Omega.{arith}
 use borrow.Author.Needs.{needs}
 use Rattle.layouts.proofs.layout_of.Statement.{statement}

@@ -1,6 +1,4 @@
 -- `layouts::width_of` meets its contract. Assumes nothing.
-use mathlib.Core.Path.{sym}
-use borrow.Author.Needs.{needs}
 use borrow.Author.Tests.{eq-eqb, ne-eqb}
 use Rattle.layouts.specs.Named.{widthBy}
 use Rattle.layouts.proofs.width_of.Statement.{statement}

@@ -56,7 +56,8 @@ returns-9 c =
     let aligned : tie.Else3 = search in
     λ h. let some : 0 < asked .node-keys .result .entries = omega arith in
     certified layout32 _ standard (sym (count .u32-at2 .ensures)) h (to asked some) (omega arith) (omega arith) (aligned .if3 .left) (omega arith)
-    (subst (λ (m : ℕ). Root layout32 (s asked some) 14 (length (s asked some) - 8) m) (c .if8 .left) (node asked some)) _ (keys asked some .keys) (keys asked some .solid)
+    (subst (λ (m : ℕ). Root layout32 (s asked some) 14 (length (s asked some) - 8) m) (c .if8 .left) (node asked some)) _
+    (keys asked some .keys) (keys asked some .solid)
 
 pub root-keys-spec : {M : Type 1} → statement M
 unfolding standard

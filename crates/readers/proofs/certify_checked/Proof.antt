@@ -1,6 +1,5 @@
 -- `readers::certify_checked` meets its contract. Assumes nothing.
 use mathlib.Core.Path.{sym}
-use native.Mathlib.Omega.{arith}
 use Rattle.format.specs.Layout.{standard}
 use Rattle.format.specs.Laws.Calls.Accepted.{node, certify-refuses, certify-none, certify-8, certify-9, certify-all}
 use borrow.Author.Needs.{needs}

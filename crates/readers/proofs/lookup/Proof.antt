@@ -1,6 +1,5 @@
 -- `readers::lookup` meets its contract. Assumes nothing.
 use mathlib.Core.Path.{sym, _∙_}
-use native.Mathlib.Omega.{arith}
 use Rattle.format.specs.Layout.{standard}
 use Rattle.format.specs.Laws.Calls.Accepted.{node, lookup-refuses, lookup-none, lookup-gives}
 use borrow.Author.Needs.{needs}

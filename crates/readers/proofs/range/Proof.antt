@@ -1,6 +1,5 @@
 -- `readers::range` meets its contract. Assumes nothing.
 use mathlib.Core.Path.{sym}
-use native.Mathlib.Omega.{arith}
 use Rattle.format.specs.Layout.{standard}
 use Rattle.format.specs.Laws.Calls.Accepted.{node}
 use Rattle.format.specs.Laws.Calls.Certified.{certified-accepts, ascending-root, range-refuses, range-keys-refuses, range-values-refuses}

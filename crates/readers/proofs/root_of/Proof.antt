@@ -23,8 +23,8 @@ returns : tie.Need-returns
 returns c =
     let start : tie.Start = search in
     let a = start .args in
-    subst (λ (n : ℕ). target (layoutOf (a .layout)) (a .archive .now) (length (a .archive .now) - n) ≡ at (c .pointed .result .0)) (c .before .record .ensures .0)
-    (c .pointed .ensures)
+    subst (λ (n : ℕ). target (layoutOf (a .layout)) (a .archive .now) (length (a .archive .now) - n) ≡ at (c .pointed .result .0))
+    (c .before .record .ensures .0) (c .pointed .ensures)
 
 pub root-of-spec : {M : Type 1} → statement M
 root-of-spec = tie.close (tie.spec (search needs) (λ c. omega (arith, c .record .ensures .0)) pointed-requires returns)

@@ -1,6 +1,5 @@
 -- `readers::walk` meets its contract. Assumes nothing.
 use mathlib.Core.Path.{sym}
-use native.Mathlib.Omega.{arith}
 use Rattle.format.specs.Layout.{standard}
 use Rattle.format.specs.Laws.Calls.Accepted.{node, walk-refuses, walk-keys-refuses, walk-values-refuses}
 use Rattle.format.specs.Laws.Calls.Accepted.{walk-none, walk-keys-none, walk-values-none, walk-gives, walk-keys-gives, walk-values-gives}

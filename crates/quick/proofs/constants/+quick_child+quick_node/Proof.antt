@@ -6,8 +6,6 @@ use borrow.Author.Needs.{needs}
 use borrow.Fn.Kinds.{In, Out}
 use borrow.Fn.PlainCycle.{Measures, is, falls, and}
 use Rattle.format.specs.Layout.{layout32, standard}
-use Rattle.format.specs.Node as Node
-use Rattle.format.specs.NodeRelation.{ChildOk, Holds}
 use Rattle.quick.proofs.Passing.{leads32, absent-child, leaf-child, inner-child, SoFar, none-passed, one-passed, all-passed}
 use Rattle.quick.proofs.constants.quick_child.Reads as child
 use Rattle.quick.proofs.constants.quick_child.Kinds as child-kinds

@@ -8,8 +8,7 @@ use borrow.Fn.Kinds.{In, Out}
 use borrow.Fn.PlainCycle.{Measures, is, falls, and}
 use Rattle.format.specs.Layout.{Layout, leafSize}
 use Rattle.format.specs.Readable.{LeadsTo}
-use Rattle.format.specs.NodeRelation.{ChildOk, Holds}
-use Rattle.quick.specs.Quick.{numbered, Numbers}
+use Rattle.quick.specs.Quick.{numbered}
 use Rattle.quick.proofs.Passing.{absent-child, leaf-child, inner-child, SoFar, none-passed, one-passed, all-passed}
 use Rattle.quick.proofs.Numbered.{leaf-is, leads-by, child-is, field-near}
 use Rattle.quick.proofs.numbers.child_below.Reads as child

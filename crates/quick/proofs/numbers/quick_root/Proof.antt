@@ -31,7 +31,8 @@ module _ (c : tie.Else6) where
   to : LeadsTo L (start .args .archive .now) (start .args .at) p
   to = leads-by L _ _ _ _ (read .uint-at .ensures .0) (read .uint-at .ensures .1) (all .ones .ensures) (omega arith) (omega arith)
 
-  passes : {n : ℕ} → Below L (start .args .archive .now) (start .args .depth - 1) 0 p n → Root L (start .args .archive .now) (start .args .depth) (start .args .at) n
+  passes : {n : ℕ} → Below L (start .args .archive .now) (start .args .depth - 1) 0 p n
+      → Root L (start .args .archive .now) (start .args .depth) (start .args .at) n
   passes w =
       let even : tie.Else5 = search in
       let room : tie.Else4 = search in
