@@ -1,6 +1,6 @@
 //! Archives written node by node, so that they can be other than what a builder writes.
 
-use crate::model::{child, ENTRIES, INNER, KEYS, LEAF, NODE, VALUES};
+use crate::model::{Layout, COMMON, ENTRIES, INNER, KEYS, LEAF};
 
 /// A key and its value.
 pub type Slot = (u64, u64);
@@ -9,44 +9,52 @@ pub fn put<const N: usize>(bytes: &mut [u8], position: usize, what: [u8; N]) {
     bytes[position..position + N].copy_from_slice(&what);
 }
 
-/// The offset that stands in a field at `from` and leads to `to`.
-pub fn offset(from: usize, to: usize) -> i32 {
-    (to as i64 - from as i64) as i32
+/// The offset that stands in a field at `from` and leads to `to`, as its two's complement.
+pub fn offset(from: usize, to: usize) -> u64 {
+    (to as u64).wrapping_sub(from as u64)
 }
 
-fn put_slots(node: &mut [u8], slots: &[Slot]) {
-    for (index, (key, value)) in slots.iter().enumerate() {
-        put(node, KEYS + 8 * index, key.to_le_bytes());
-        put(node, VALUES + 8 * index, value.to_le_bytes());
+impl Layout {
+    fn put_slots(self, node: &mut [u8], slots: &[Slot]) {
+        for (index, (key, value)) in slots.iter().enumerate() {
+            put(node, KEYS + 8 * index, key.to_le_bytes());
+            put(node, self.values() + 8 * index, value.to_le_bytes());
+        }
+    }
+
+    /// Makes a leaf of a leaf's size, which may hold anything where a leaf has nothing to say.
+    pub fn put_leaf(self, node: &mut [u8], count: u32, slots: &[Slot]) {
+        node[0] = 0;
+        self.put_slots(node, slots);
+        self.put(node, self.head(), count.into());
+    }
+
+    /// Makes an inner node of an inner node's size for a position, with the positions of its children.
+    pub fn put_inner(
+        self,
+        node: &mut [u8],
+        position: usize,
+        slots: &[Slot],
+        children: &[Option<usize>],
+    ) {
+        node[0] = 1;
+        self.put_slots(node, slots);
+        for (index, to) in children.iter().enumerate() {
+            let offset = to.map_or(1, |to| offset(self.child(position, index), to));
+            self.put(node, self.child(0, index), offset);
+        }
+    }
+
+    /// The record for a position, with the position of its root.
+    pub fn record_at(self, position: usize, root: usize, count: u64) -> Vec<u8> {
+        let mut record = vec![0; self.record()];
+        self.put(&mut record, 0, offset(position, root));
+        self.put(&mut record, self.width, count);
+        record
     }
 }
 
-/// Makes a leaf of `LEAF` bytes that may hold anything where a leaf has nothing to say.
-pub fn leaf(node: &mut [u8], count: u32, slots: &[Slot]) {
-    node[0] = 0;
-    put_slots(node, slots);
-    put(node, NODE, count.to_le_bytes());
-}
-
-/// Makes an inner node for a position, of `INNER` bytes, with the positions of its children.
-pub fn inner(node: &mut [u8], position: usize, slots: &[Slot], children: &[Option<usize>]) {
-    node[0] = 1;
-    put_slots(node, slots);
-    for (index, to) in children.iter().enumerate() {
-        let offset = to.map_or(1, |to| offset(child(position, index), to));
-        put(node, child(0, index), offset.to_le_bytes());
-    }
-}
-
-/// The record for a position, with the position of its root.
-pub fn record(position: usize, root: usize, count: u32) -> [u8; 8] {
-    let mut record = [0; 8];
-    put(&mut record, 0, offset(position, root).to_le_bytes());
-    put(&mut record, 4, count.to_le_bytes());
-    record
-}
-
-/// An archive in the making; every byte that has nothing to say is 0.
+/// An archive of the common layout in the making; every byte that has nothing to say is 0.
 #[derive(Default)]
 pub struct Output {
     pub bytes: Vec<u8>,
@@ -57,7 +65,7 @@ impl Output {
     pub fn leaf_counting(&mut self, count: u32, slots: &[Slot]) -> usize {
         let position = self.bytes.len();
         let mut node = [0; LEAF];
-        leaf(&mut node, count, slots);
+        COMMON.put_leaf(&mut node, count, slots);
         self.bytes.extend(node);
         position
     }
@@ -73,14 +81,15 @@ impl Output {
     ) -> usize {
         let position = self.bytes.len();
         let mut node = [0; INNER];
-        inner(&mut node, position, &slots, &children);
+        COMMON.put_inner(&mut node, position, &slots, &children);
         self.bytes.extend(node);
         position
     }
 
     /// Ends the archive.
     pub fn record(mut self, root: usize, count: u32) -> Vec<u8> {
-        self.bytes.extend(record(self.bytes.len(), root, count));
+        let record = COMMON.record_at(self.bytes.len(), root, count.into());
+        self.bytes.extend(record);
         self.bytes
     }
 }

@@ -7,6 +7,7 @@ pub mod counts;
 #[cfg(feature = "ours")]
 pub mod lender;
 pub mod lists;
+pub mod measure;
 pub mod model;
 #[cfg(feature = "ours")]
 pub mod ours;

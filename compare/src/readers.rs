@@ -1,6 +1,7 @@
 //! The readers' answers about one archive: rkyv's against the model's, which is document 01's text, and, with the feature `ours`, the proved
 //! code's against both.
 
+pub mod lent;
 #[cfg(feature = "ours")]
 mod proved;
 
@@ -8,15 +9,15 @@ use std::fmt::Debug;
 use std::ops::Bound;
 
 use crate::counts::LeftOut;
-use crate::model::{self, Entry};
-use crate::rkyv_map::{Accepted, Archive};
+use crate::model::{self, Entry, Layout, COMMON};
+use crate::rkyv_map::{Accepted, Archive, WIDTH};
 use crate::trees::{self, Random};
 
 /// Keys and pairs of bounds asked of each archive.
 const QUESTIONS: usize = 8;
 
 /// A lower and an upper bound.
-type Bounds = (Bound<u64>, Bound<u64>);
+pub type Bounds = (Bound<u64>, Bound<u64>);
 
 /// The first difference in the answers about one archive.
 pub fn compare(
@@ -47,7 +48,7 @@ pub fn compare(
         .collect();
     if let Ok(accepted) = &checked {
         count_left_out(bytes, &ranges, left_out);
-        readers(bytes, accepted, &entries, &sought, &ranges)?;
+        readers(COMMON, bytes, accepted, &sought, &ranges)?;
     }
     #[cfg(feature = "ours")]
     {
@@ -60,8 +61,28 @@ pub fn compare(
     Ok(())
 }
 
+/// The first difference between rkyv's answers about one archive and the model's, with so many entries a node and
+/// pointers of the bits that rkyv is built for. The archive is within the limit, which rkyv does not have.
+pub fn compare_with_rkyv<const N: usize>(
+    archive: &Archive,
+    sought: &[u64],
+    ranges: &[Bounds],
+) -> Result<(), String> {
+    let layout = Layout {
+        width: WIDTH,
+        entries: N,
+    };
+    let (bytes, checked) = (archive.bytes(), archive.check_of::<N>());
+    let model = layout.check(bytes).map(|count| count as u32);
+    same("check", ("rkyv", count(&checked)), ("model", model))?;
+    match &checked {
+        Ok(accepted) => readers(layout, bytes, accepted, sought, ranges),
+        Err(_) => Ok(()),
+    }
+}
+
 /// What rkyv's check answers, as a number.
-fn count(checked: &Result<Accepted, u8>) -> Result<u32, u8> {
+fn count<const N: usize>(checked: &Result<Accepted<N>, u8>) -> Result<u32, u8> {
     match checked {
         Ok(accepted) => Ok(accepted.count()),
         Err(number) => Err(*number),
@@ -82,26 +103,32 @@ fn count_left_out(bytes: &[u8], ranges: &[Bounds], left_out: &mut LeftOut) {
 }
 
 /// What rkyv reads of an accepted archive, and what document 01 says of it.
-fn readers(
+fn readers<const N: usize>(
+    layout: Layout,
     bytes: &[u8],
-    accepted: &Accepted,
-    entries: &[(u64, u64)],
+    accepted: &Accepted<N>,
     sought: &[u64],
     ranges: &[Bounds],
 ) -> Result<(), String> {
-    let list = model::list(bytes);
-    same("walk", ("rkyv", entries), ("model", &pairs(&list)))?;
-    if model::fault(bytes).is_some() {
+    let list = layout.list(bytes);
+    same("walk", ("rkyv", accepted.visit()), ("model", pairs(&list)))?;
+    for &key in sought {
+        let entry = layout.lookup(bytes, key);
+        let found = entry.map(|entry| (entry.key, entry.value, entry.position));
+        let what = format!("lookup of {key}");
+        same(&what, ("rkyv", accepted.get(key)), ("model", found))?;
+    }
+    if layout.fault(bytes).is_some() {
         return Ok(());
     }
     for &key in sought {
         let entry = list.iter().find(|entry| entry.key == key);
         let found = entry.map(|entry| (entry.key, entry.value, entry.position));
         let what = format!("lookup of {key}");
-        same(&what, ("rkyv", accepted.get(key)), ("model", found))?;
+        same(&what, ("rkyv", accepted.get(key)), ("the list", found))?;
     }
     for &(lower, upper) in ranges {
-        let range = pairs(&model::range(bytes, lower, upper));
+        let range = pairs(&layout.range(bytes, lower, upper));
         let what = format!("range from {lower:?} to {upper:?}");
         same(&what, matching(accepted, lower, upper), ("model", range))?;
     }
@@ -109,8 +136,8 @@ fn readers(
 }
 
 /// The entries of a certified archive that meet both bounds, and whose answer they are.
-fn matching(
-    accepted: &Accepted,
+fn matching<const N: usize>(
+    accepted: &Accepted<N>,
     lower: Bound<u64>,
     upper: Bound<u64>,
 ) -> (&'static str, Vec<(u64, u64)>) {
@@ -120,13 +147,18 @@ fn matching(
     }
 }
 
-fn pairs(entries: &[Entry]) -> Vec<(u64, u64)> {
+/// The keys and values of entries.
+pub fn pairs(entries: &[Entry]) -> Vec<(u64, u64)> {
     let pairs = entries.iter().map(|entry| (entry.key, entry.value));
     pairs.collect()
 }
 
 /// A difference, unless the two give the same.
-fn same<T: Debug + PartialEq>(what: &str, one: (&str, T), other: (&str, T)) -> Result<(), String> {
+pub fn same<T: Debug + PartialEq>(
+    what: &str,
+    one: (&str, T),
+    other: (&str, T),
+) -> Result<(), String> {
     if one.1 == other.1 {
         return Ok(());
     }

@@ -14,34 +14,31 @@
 //! - `the same, rkyv not certifying`: the proved range again, beside rkyv's check and range without a look at the order of the keys.
 //! - `build`: the proved build makes sure that the keys ascend, rkyv leaves that to its caller. Both write to memory that they have already,
 //!   behind no header; rkyv also uses working memory, kept from call to call.
+//! - `refused at the first leaf`, `at the last leaf` and `by the count`: each runs its check on an archive whose first
+//!   or last leaf counts 6 entries, or whose record counts one too many. The proved check answers the refusal's number,
+//!   rkyv's error in a release build only that there is one.
+//!
+//! `bench refused` prints these last lines only.
 
+use std::env;
 use std::hint::black_box;
-use std::ops::{Bound, ControlFlow};
-use std::time::{Duration, Instant};
+use std::ops::Bound;
 
 use compare::cases::examination;
+use compare::measure::theirs::{accepted, certified, look_up, range, refused, visit};
+use compare::measure::{best, heading, row, Lent};
+use compare::model::{self, COMMON, ENTRIES, NODE};
 #[cfg(feature = "ours")]
 use compare::ours;
-use compare::rkyv_map::{self, by_key, Accepted, Archive, Map};
+use compare::rkyv_map::{self, Archive};
 use compare::trees::Random;
-use rkyv::primitive::ArchivedU64;
-use rkyv::rancor::Error;
 use rkyv::ser::allocator::Arena;
 use rkyv::util::AlignedVec;
 
-/// Repetitions of a measurement, and the least time of one, in which the call is made as often as needed.
-const REPETITIONS: usize = 1_000;
-const LEAST: Duration = Duration::from_micros(100);
 /// Keys looked up in one go, and the entries in a narrow range and in a wider one.
 const LOOKUPS: usize = 1_000;
 const NARROW: usize = 1;
 const WIDER: usize = 100;
-
-/// What a call writes to.
-struct Lent {
-    keys: Vec<u64>,
-    values: Vec<u64>,
-}
 
 /// The proved code's side of a measurement, if it is linked.
 #[cfg(feature = "ours")]
@@ -62,84 +59,55 @@ macro_rules! proved {
 const NOT_THERE: Option<fn(&mut Lent) -> usize> = None;
 
 fn main() {
-    println!("entries  call                               ours ns     rkyv ns   ratio");
+    let refused_only = env::args().nth(1).is_some_and(|word| word == "refused");
+    heading();
     for entries in [76, 1_000, 40_000] {
-        measure(entries);
+        let (keys, values) = examination(entries);
+        let archive = &Archive::copy(&rkyv_map::build(&[], &keys, &values));
+        if !refused_only {
+            measure_readers(archive, &keys);
+            measure_ranges(archive, &keys);
+            measure_build(archive.bytes(), &keys, &values);
+        }
+        measure_refused(archive);
     }
 }
 
-fn measure(entries: usize) {
-    let (keys, values) = examination(entries as u64);
-    let archive = &Archive::copy(&rkyv_map::build(&[], &keys, &values));
+fn measure_readers(archive: &Archive, keys: &[u64]) {
+    let entries = keys.len();
     let random = &mut Random::new(0);
     // Of four keys that are looked up, three are there.
     let sought: Vec<u64> = (0..LOOKUPS)
-        .map(|_| random.pick(&keys) + u64::from(random.one_in(4)))
+        .map(|_| random.pick(keys) + u64::from(random.one_in(4)))
         .collect();
-
-    let row = |call: &str, (ours, rkyv): (Option<f64>, f64)| {
-        let ratio = ours.map_or("-".into(), |ours| format!("{:.2}", ours / rkyv));
-        let ours = ours.map_or("-".into(), |ours| format!("{ours:.0}"));
-        println!("{entries:7}  {call:32} {ours:>9} {rkyv:11.0} {ratio:>7}");
-    };
-    row(
-        "check",
-        best(
-            0,
-            proved!(|_: &mut Lent| ours::check(black_box(archive.bytes())).unwrap() as usize),
-            |_| accepted(archive).count() as usize,
-        ),
-    );
-    row(
-        "certify",
-        best(
-            0,
-            proved!(|_: &mut Lent| ours::certify(black_box(archive.bytes())).unwrap() as usize),
-            |_| certified(archive).count() as usize,
-        ),
-    );
-    row(
-        "check and walk",
-        best(
-            entries,
-            proved!(|lent: &mut Lent| {
-                let bytes = black_box(archive.bytes());
-                ours::walk(bytes, &mut lent.keys, &mut lent.values)
-                    .unwrap()
-                    .0 as usize
-            }),
-            |lent| visit(accepted(archive).map(), lent),
-        ),
-    );
-    row(
-        "check and 1,000 lookups",
-        best(
-            LOOKUPS,
-            proved!(|lent: &mut Lent| {
-                let bytes = black_box(archive.bytes());
-                ours::lookup_many(bytes, &sought, &mut lent.values).unwrap() as usize
-            }),
-            |lent| look_up(accepted(archive).map(), &sought, lent),
-        ),
-    );
-    measure_ranges(archive, &keys, row);
-    let (mut output, mut arena) = (AlignedVec::new(), Arena::new());
-    row(
-        "build",
-        best(
-            0,
-            proved!(building(archive.bytes(), &keys, &values)),
-            |_| {
-                output.clear();
-                rkyv_map::build_into(&mut output, &mut arena, black_box(&keys), &values).unwrap();
-                output.len()
-            },
-        ),
-    );
+    let check = proved!(|_: &mut Lent| ours::check(black_box(archive.bytes())).unwrap() as usize);
+    let times = best(0, check, |_| accepted::<5>(archive).count() as usize);
+    row(entries, "check", times);
+    let certify =
+        proved!(|_: &mut Lent| ours::certify(black_box(archive.bytes())).unwrap() as usize);
+    let times = best(0, certify, |_| certified::<5>(archive).count() as usize);
+    row(entries, "certify", times);
+    let walk = proved!(|lent: &mut Lent| {
+        let bytes = black_box(archive.bytes());
+        let answer = ours::walk(bytes, &mut lent.keys, &mut lent.values);
+        answer.unwrap().0 as usize
+    });
+    let times = best(entries, walk, |lent| {
+        visit(accepted::<5>(archive).map(), lent)
+    });
+    row(entries, "check and walk", times);
+    let lookups = proved!(|lent: &mut Lent| {
+        let bytes = black_box(archive.bytes());
+        ours::lookup_many(bytes, &sought, &mut lent.values).unwrap() as usize
+    });
+    let times = best(LOOKUPS, lookups, |lent| {
+        look_up(accepted::<5>(archive).map(), &sought, lent)
+    });
+    row(entries, "check and 1,000 lookups", times);
 }
 
 /// The rows of ranges over the middle of the keys: one entry, more, and all.
-fn measure_ranges(archive: &Archive, keys: &[u64], row: impl Fn(&str, (Option<f64>, f64))) {
+fn measure_ranges(archive: &Archive, keys: &[u64]) {
     let entries = keys.len();
     let mut counts = vec![NARROW, WIDER.min(entries), entries];
     counts.dedup();
@@ -149,18 +117,55 @@ fn measure_ranges(archive: &Archive, keys: &[u64], row: impl Fn(&str, (Option<f6
             Bound::Included(keys[first]),
             Bound::Included(keys[first + count - 1]),
         );
-        row(
-            &format!("certify and range of {count}"),
-            best(count, proved!(ranging(archive, bounds)), |lent| {
-                range(certified(archive).map(), bounds, lent)
-            }),
-        );
-        row(
-            "the same, rkyv not certifying",
-            best(count, proved!(ranging(archive, bounds)), |lent| {
-                range(accepted(archive).map(), bounds, lent)
-            }),
-        );
+        let times = best(count, proved!(ranging(archive, bounds)), |lent| {
+            range(certified::<5>(archive).map(), bounds, lent)
+        });
+        row(entries, &format!("certify and range of {count}"), times);
+        let times = best(count, proved!(ranging(archive, bounds)), |lent| {
+            range(accepted::<5>(archive).map(), bounds, lent)
+        });
+        row(entries, "the same, rkyv not certifying", times);
+    }
+}
+
+fn measure_build(archive: &[u8], keys: &[u64], values: &[u64]) {
+    let (mut output, mut arena) = (AlignedVec::new(), Arena::new());
+    let build = proved!(building(archive, keys, values));
+    let times = best(0, build, |_| {
+        output.clear();
+        rkyv_map::build_into(&mut output, &mut arena, black_box(keys), values).unwrap();
+        output.len()
+    });
+    assert_eq!(output.as_slice(), archive, "the same bytes");
+    row(keys.len(), "build", times);
+}
+
+/// The rows of the check where it refuses: early, late, and after all nodes.
+fn measure_refused(archive: &Archive) {
+    let bytes = archive.bytes();
+    let entries = model::check(bytes).unwrap();
+    let nodes = model::nodes(bytes);
+    let mut leaves = nodes.iter().filter(|node| !node.inner);
+    let first = leaves.next().expect("a leaf").position + NODE;
+    let last = leaves.next_back().expect("another leaf").position + NODE;
+    let recorded = bytes.len() - COMMON.width;
+    let above = ENTRIES as u64 + 1;
+    for (call, field, count, number) in [
+        ("refused at the first leaf", first, above, 6),
+        ("refused at the last leaf", last, above, 6),
+        ("refused by the count", recorded, u64::from(entries) + 1, 7),
+    ] {
+        let mut bytes = bytes.to_vec();
+        COMMON.put(&mut bytes, field, count);
+        let archive = &Archive::copy(&bytes);
+        assert_eq!(archive.check().map(|_| ()), Err(number), "{call}");
+        let check =
+            proved!(|_: &mut Lent| ours::check(black_box(archive.bytes())).unwrap_err().into());
+        let times = best(0, check, |_| match refused(archive) {
+            true => number.into(),
+            false => 0,
+        });
+        row(entries as usize, call, times);
     }
 }
 
@@ -190,136 +195,4 @@ fn building<'a>(
     ours::build(&mut output, 0, keys, values).unwrap();
     assert_eq!(output, archive, "the same bytes");
     move |_| ours::build(&mut output, 0, black_box(keys), values).unwrap() as usize
-}
-
-/// rkyv's check, as a caller has it in a release build. It and the functions below are functions of their own, as the proved calls are, so
-/// that they are the same code in every line of the table.
-#[inline(never)]
-fn accepted(archive: &Archive) -> Accepted<'_> {
-    black_box(archive).validate::<Error>().unwrap()
-}
-
-/// rkyv's check, and each key compared with the one before.
-#[inline(never)]
-fn certified(archive: &Archive) -> Accepted<'_> {
-    let accepted = accepted(archive);
-    assert!(ascending(accepted.map()), "keys that ascend");
-    accepted
-}
-
-#[inline(never)]
-fn ascending(map: &Map) -> bool {
-    let mut before = None;
-    let fault = map.visit(|key, _| {
-        let key = key.to_native();
-        if before.is_some_and(|before| key <= before) {
-            return ControlFlow::Break(());
-        }
-        before = Some(key);
-        ControlFlow::Continue(())
-    });
-    fault.is_none()
-}
-
-#[inline(never)]
-fn visit(map: &Map, lent: &mut Lent) -> usize {
-    let mut places = lent.keys.iter_mut().zip(&mut lent.values);
-    let mut written = 0;
-    map.visit(|key, value| match places.next() {
-        Some(place) => {
-            (*place.0, *place.1) = (key.to_native(), value.to_native());
-            written += 1;
-            ControlFlow::Continue(())
-        }
-        None => ControlFlow::Break(()),
-    });
-    written
-}
-
-#[inline(never)]
-fn look_up(map: &Map, sought: &[u64], lent: &mut Lent) -> usize {
-    let mut found = 0;
-    for (key, place) in sought.iter().zip(&mut lent.values) {
-        if let Some((_, value)) = map.get_key_value(&ArchivedU64::from_native(*key)) {
-            *place = value.to_native();
-            found += 1;
-        }
-    }
-    found
-}
-
-#[inline(never)]
-fn range(map: &Map, bounds: (Bound<u64>, Bound<u64>), lent: &mut Lent) -> usize {
-    let places = lent.keys.iter_mut().zip(&mut lent.values);
-    let mut written = 0;
-    for ((key, value), place) in map.range_with(bounds, by_key).zip(places) {
-        (*place.0, *place.1) = (key.to_native(), value.to_native());
-        written += 1;
-    }
-    written
-}
-
-/// The best times of the two sides in nanoseconds, their repetitions taken in turn. Each has two lists of its own to write to, and both must
-/// give the same number and leave the same lists.
-fn best(
-    room: usize,
-    ours: Option<impl FnMut(&mut Lent) -> usize>,
-    rkyv: impl FnMut(&mut Lent) -> usize,
-) -> (Option<f64>, f64) {
-    let mut rkyv = Side::new(room, rkyv);
-    let mut ours = ours.map(|ours| Side::new(room, ours));
-    if let Some(ours) = &ours {
-        assert_eq!(ours.answer, rkyv.answer, "the same number");
-        assert_eq!(ours.lent.keys, rkyv.lent.keys, "the same keys");
-        assert_eq!(ours.lent.values, rkyv.lent.values, "the same values");
-    }
-    for _ in 0..REPETITIONS {
-        if let Some(ours) = &mut ours {
-            ours.repeat();
-        }
-        rkyv.repeat();
-    }
-    (ours.map(|ours| ours.best), rkyv.best)
-}
-
-struct Side<F> {
-    call: F,
-    lent: Lent,
-    answer: usize,
-    calls: u32,
-    best: f64,
-}
-
-impl<F: FnMut(&mut Lent) -> usize> Side<F> {
-    fn new(room: usize, mut call: F) -> Self {
-        let mut lent = Lent {
-            keys: vec![0; room],
-            values: vec![0; room],
-        };
-        let answer = call(&mut lent);
-        let mut side = Self {
-            call,
-            lent,
-            answer,
-            calls: 1,
-            best: f64::INFINITY,
-        };
-        while side.repeat() < LEAST {
-            side.calls *= 2;
-        }
-        side.best = f64::INFINITY;
-        side
-    }
-
-    /// One repetition: the calls that it takes, and its time.
-    fn repeat(&mut self) -> Duration {
-        let start = Instant::now();
-        for _ in 0..self.calls {
-            black_box((self.call)(&mut self.lent));
-        }
-        let time = start.elapsed();
-        let each = time.as_nanos() as f64 / f64::from(self.calls);
-        self.best = self.best.min(each);
-        time
-    }
 }

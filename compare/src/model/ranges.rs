@@ -3,7 +3,8 @@
 use std::ops::Bound;
 
 use super::keys::{key, unpack, Packing};
-use super::{list, Entry};
+use super::layout::{Layout, COMMON};
+use super::Entry;
 
 /// "they cross if the lower is above the upper, or both are equal and excluded"
 pub fn crosses(lower: Bound<u64>, upper: Bound<u64>) -> bool {
@@ -15,21 +16,28 @@ pub fn crosses(lower: Bound<u64>, upper: Bound<u64>) -> bool {
     }
 }
 
-/// The entries of an accepted archive that meet both bounds, in order.
+impl Layout {
+    /// The entries of an accepted archive that meet both bounds, in order.
+    pub fn range(self, bytes: &[u8], lower: Bound<u64>, upper: Bound<u64>) -> Vec<Entry> {
+        let meets_lower = |key: u64| match lower {
+            Bound::Included(bound) => key >= bound,
+            Bound::Excluded(bound) => key > bound,
+            Bound::Unbounded => true,
+        };
+        let meets_upper = |key: u64| match upper {
+            Bound::Included(bound) => key <= bound,
+            Bound::Excluded(bound) => key < bound,
+            Bound::Unbounded => true,
+        };
+        let mut entries = self.list(bytes);
+        entries.retain(|entry| meets_lower(entry.key) && meets_upper(entry.key));
+        entries
+    }
+}
+
+/// The entries of an accepted archive of the common layout that meet both bounds, in order.
 pub fn range(bytes: &[u8], lower: Bound<u64>, upper: Bound<u64>) -> Vec<Entry> {
-    let meets_lower = |key: u64| match lower {
-        Bound::Included(bound) => key >= bound,
-        Bound::Excluded(bound) => key > bound,
-        Bound::Unbounded => true,
-    };
-    let meets_upper = |key: u64| match upper {
-        Bound::Included(bound) => key <= bound,
-        Bound::Excluded(bound) => key < bound,
-        Bound::Unbounded => true,
-    };
-    let mut entries = list(bytes);
-    entries.retain(|entry| meets_lower(entry.key) && meets_upper(entry.key));
-    entries
+    COMMON.range(bytes, lower, upper)
 }
 
 /// A column query: "takes x from a to b".

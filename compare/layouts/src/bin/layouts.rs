@@ -1,0 +1,158 @@
+//! Compares answers on generated archives of other layouts: the proved code's with the second reading's, and the second
+//! reading's with rkyv's at the layouts whose pointers rkyv is built for.
+//!
+//! `layouts [NUMBER [FIRST]]` takes archives at the edges of each layout, and as many seeds from the first on. Built
+//! for 32-bit pointers it takes four layouts, and as many seeds again with the layout picked for each from all; else
+//! the one of rkyv's pointers. Of each it prints how many archives there were of each kind and what was compared. If
+//! answers differ, it prints the smallest archive on which they do, in hex, and ends with 1. A run of 100,000 archives
+//! a layout or more also ends with 1 if one of the refusals 1 to 9 comes up less than 100 times at one of them.
+
+use std::env;
+use std::ops::Range;
+use std::process::ExitCode;
+
+use compare::counts::{Counts, LEAST};
+use compare::model::{Layout, COMMON};
+use compare::rkyv_map::{self, Archive, WIDTH};
+use compare::trees::{self, Random};
+use layouts::readers::{self, Compared};
+use layouts::LAYOUTS;
+
+/// A run of this many archives must have each refusal often enough.
+const ENOUGH: u64 = 100_000;
+/// One archive in so many is as long as the limit or longer.
+const LONG: u64 = 256;
+/// Numbers of entries of which rkyv builds archives.
+const BUILT: usize = 700;
+
+fn main() -> ExitCode {
+    let mut arguments = env::args().skip(1).map(|text| text.parse::<u64>());
+    let mut argument = |default| match arguments.next() {
+        Some(number) => number.expect("a number"),
+        None => default,
+    };
+    let number = argument(10_000);
+    let first = argument(0);
+    println!("seeds from {first}, {number} of them at each layout");
+    let all = WIDTH == COMMON.width;
+    let seeds = first..first + number;
+    let mut good = true;
+    for layout in LAYOUTS {
+        if all || layout.width == WIDTH {
+            good &= same_bytes(layout);
+            let mut run = Run::default();
+            for (index, archive) in (0..).zip(trees::edges(layout)) {
+                run.add(layout, &archive, &format!("edge {index}"), index);
+            }
+            good &= run.seeds(|_| layout, seeds.clone());
+        }
+    }
+    if all {
+        println!("\nany layout: offsets of 2, 4 or 8 bytes, 3 to 15 entries a node");
+        good &= Run::default().seeds(layouts::any, seeds);
+    }
+    match good {
+        true => ExitCode::SUCCESS,
+        false => ExitCode::FAILURE,
+    }
+}
+
+/// What a run over archives came to.
+#[derive(Default)]
+struct Run {
+    counts: Counts,
+    compared: Compared,
+    accepted: u64,
+    differing: u64,
+    /// The smallest archive on which answers differ, and the first difference.
+    smallest: Option<(Archive, String)>,
+}
+
+impl Run {
+    /// Compares the generated archives, each of the layout that its seed has, prints what there was, and tells whether
+    /// nothing is wrong.
+    fn seeds(mut self, layout_of: impl Fn(u64) -> Layout, seeds: Range<u64>) -> bool {
+        for seed in seeds.clone() {
+            let layout = layout_of(seed);
+            let archive = trees::archive_at(layout, seed, LONG);
+            self.add(layout, &archive, &format!("seed {seed}"), !seed);
+        }
+        self.print();
+        let rare = self.counts.rare(1..=9);
+        let few = seeds.end - seeds.start >= ENOUGH && !rare.is_empty();
+        if few {
+            println!("less than {LEAST} times: {rare:?}");
+        }
+        self.differing == 0 && !few
+    }
+
+    /// Compares one archive; the keys and bounds that it is asked for are those of a seed.
+    fn add(&mut self, layout: Layout, bytes: &[u8], name: &str, seed: u64) {
+        let archive = Archive::copy(bytes);
+        self.counts.add(layout.certify(bytes));
+        self.accepted += u64::from(layout.check(bytes).is_ok());
+        let random = &mut Random::new(seed);
+        if let Err(difference) = readers::compare(layout, &archive, random, &mut self.compared) {
+            self.differing += 1;
+            let least = self.smallest.as_ref();
+            if least.is_none_or(|(least, _)| bytes.len() < least.bytes().len()) {
+                let text = format!("{name}, {layout:?}: {difference}");
+                self.smallest = Some((archive, text));
+            }
+        }
+    }
+
+    fn print(&self) {
+        let (archives, certified) = self.counts.all();
+        println!("archives                            {archives:9}");
+        println!("accepted                            {:9}", self.accepted);
+        println!("certified                           {certified:9}");
+        self.counts.print(1..=9);
+        let compared = &self.compared;
+        for (name, count) in [
+            ("entries that a walk wrote", compared.walked),
+            ("keys looked up", compared.sought),
+            ("keys found", compared.found),
+            ("ranges of certified archives", compared.ranges),
+            ("ranges that are refused", compared.refused_ranges),
+            ("archives that rkyv answers about", compared.with_rkyv),
+            ("differing", self.differing),
+        ] {
+            println!("{name:36}{count:9}");
+        }
+        if let Some((archive, difference)) = &self.smallest {
+            println!("{difference}");
+            for byte in archive.bytes() {
+                print!("{byte:02x}");
+            }
+            println!();
+        }
+    }
+}
+
+/// A build of keys and values behind a header.
+type Build = fn(&[u8], &[u64], &[u64]) -> Vec<u8>;
+
+/// Prints the layout, and holds the archives that are generated as built ones to what rkyv builds, byte for byte.
+fn same_bytes(layout: Layout) -> bool {
+    let Layout { width, entries } = layout;
+    println!("\noffsets of {width} bytes, {entries} entries a node");
+    let build: Build = match (width == WIDTH, entries) {
+        (true, 3) => rkyv_map::build_of::<3>,
+        (true, 5) => rkyv_map::build_of::<5>,
+        (true, 15) => rkyv_map::build_of::<15>,
+        _ => return true,
+    };
+    let mut differing = 0;
+    for count in 0..=BUILT {
+        let (keys, values) = compare::cases::examination(count as u64);
+        let header = &vec![7; count % 18];
+        let ours = trees::complete(layout, header, &keys, &values);
+        differing += u32::from(ours != build(header, &keys, &values));
+    }
+    println!("archives as rkyv builds them        {:9}", BUILT + 1);
+    if differing > 0 {
+        println!("of these differing from rkyv's      {differing:9}");
+    }
+    differing == 0
+}

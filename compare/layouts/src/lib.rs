@@ -1,0 +1,20 @@
+//! The proved readers at any layout, beside a second reading of the bytes and beside rkyv.
+
+pub mod ours;
+pub mod readers;
+
+use compare::model::Layout;
+use compare::trees::Random;
+
+/// The layouts that are compared each by itself: other pointers, and other numbers of entries a node.
+pub const LAYOUTS: [Layout; 4] = [layout(2, 5), layout(8, 5), layout(4, 3), layout(4, 15)];
+
+const fn layout(width: usize, entries: usize) -> Layout {
+    Layout { width, entries }
+}
+
+/// Any layout that the proved readers take, from a seed.
+pub fn any(seed: u64) -> Layout {
+    let random = &mut Random::new(seed.rotate_left(32));
+    layout(random.pick(&[2, 4, 8]), 3 + random.below(13))
+}
