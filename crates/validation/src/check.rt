@@ -195,7 +195,7 @@ fn check_node_rel_ptr(
 }
 
 // The same for the record's field. It calls `check_inner_node` itself, so that this one stays a function of its own in the compiled program and
-// `check_node_rel_ptr` becomes part of it: a leaf then takes no call. Without it an archive that is refused takes 1.2 times as long.
+// `check_node_rel_ptr` becomes part of it: a leaf then takes no call. Without it an archive that is refused takes 1.2 to 1.3 times as long.
 fn check_root_rel_ptr(
     archive: &[u8],
     layout: Layout,
