@@ -1,15 +1,14 @@
 -- Where a field leads that leads back, in the numbers of the code, and what the code reads of a child. Assumes nothing.
-use mathlib.Core.Path.{_≡_, refl, sym, ap, _∙_}
-use mathlib.Core.Bool.{Bool, true, false}
+use mathlib.Core.Path.{_≡_, sym, ap, _∙_}
+use mathlib.Core.Bool.{false}
 use mathlib.Core.List.{List}
 use Prim.Native.Nat.{ℕ, suc, _+_, _-_, _^_, _≤_, _<_}
 use native.Mathlib.Decide.{decLt}
 use native.Mathlib.Omega.{arith}
 use lib.IntN.{pos, _+ℤ_}
 use borrow.Author.Tests.{eq-eqb, ne-eqb}
-use Rattle.format.specs.declared.Position.{Position}
 use Rattle.format.specs.declared.Child.the-variants.{At, Absent}
-use Rattle.format.specs.Layout.{Layout, layout32, pointer, signBits}
+use Rattle.format.specs.Layout.{Layout, pointer, signBits}
 use Rattle.format.specs.Bytes.{leAt}
 use Rattle.format.specs.Signed.{ofTwos}
 use Rattle.format.specs.RelPtr.{at, below, position, target, absent}
@@ -51,36 +50,25 @@ module _ (L : Layout) (s : List ℕ) where
     pub down-is : target L s f ≡ at (f - 1 - (2 ^ suc (signBits (L .width)) - 1 - x))
     down-is = let far = back .inside in let to = back .is in d .leads ∙ ap at (omega arith)
 
-  -- x is the field of child i of the inner node at p as the code computes it, and b what it reads there: whether the child is absent.
-  module _ (p i x : ℕ) (b : Bool) (f : x ≡ child L p i) (e : b ≡ absent L s x) where
-    pub field-absent : b ≡ true → Absent ≡ childAt L s (child L p i)
-    field-absent h = rw (← f) (sym (child-absent L s x (sym e ∙ h)))
-
-    pub field-down : InnerNode L s p → i ≤ L .entries → b ≡ false → Down L s x x
-    field-down n le h =
-        let d = n .back i le (rw (← f) (sym e ∙ h)) in
-        let l = d .lower in
-        record { node = d .node; leads = ap (target L s) f ∙ d .leads; lower = omega arith }
-
-    pub field-there : (q : Position) → b ≡ false → target L s x ≡ at (q .0) → At q ≡ childAt L s (child L p i)
-    field-there q h t = rw (← f) (sym (child-there L s x (q .0) (sym e ∙ h) t))
-
--- In the common layout: x is what the code reads at the field of child i of the inner node at p.
-module _ (s : List ℕ) (p i x : ℕ) (e : x ≡ leAt 4 s (child layout32 p i)) where
-  pub common-absent : x ≡ 1 → Absent ≡ childAt layout32 s (child layout32 p i)
-  unfolding absent
-  common-absent h = sym (child-absent layout32 s _ (eq-eqb _ _ (sym e ∙ h)))
-
-  module _ (n : InnerNode layout32 s p) (le : i ≤ 5) (h : x ≡ 1 → ⊥) (l : x < 0x1_0000_0000) where
-    present : absent layout32 s (child layout32 p i) ≡ false
+  -- f is the field of child i of the inner node at p as the code computes it, and x what it reads there.
+  module _ (p i f x : ℕ) (at-f : f ≡ child L p i) (e : x ≡ leAt (pointer L) s f) where
+    pub field-absent : x ≡ 1 → Absent ≡ childAt L s (child L p i)
     unfolding absent
-    present = ne-eqb _ _ (λ z. h (e ∙ z))
+    field-absent h = rw (← at-f) (sym (child-absent L s f (eq-eqb _ _ (sym e ∙ h))))
 
-    down : Down layout32 s (child layout32 p i) (child layout32 p i)
-    down = field-down layout32 s p i _ _ refl refl n le present
+    module _ (l : x < 2 ^ suc (signBits (L .width))) (n : InnerNode L s p) (le : i ≤ L .entries) (h : x ≡ 1 → ⊥) where
+      present : absent L s f ≡ false
+      unfolding absent
+      present = ne-eqb _ _ (λ z. h (e ∙ z))
 
-    pub common-inside : 0x1_0000_0000 ≤ child layout32 p i + x
-    common-inside = back layout32 s _ x down e l .inside
+      down : Down L s f f
+      down =
+          let d = n .back i le (rw (← at-f) present) in
+          let low = d .lower in
+          record { node = d .node; leads = ap (target L s) at-f ∙ d .leads; lower = omega arith }
 
-    pub common-there : At (record { 0 = child layout32 p i + x - 0x1_0000_0000 }) ≡ childAt layout32 s (child layout32 p i)
-    common-there = sym (child-there layout32 s _ _ present (down .leads ∙ ap at (back layout32 s _ x down e l .is)))
+      pub field-inside : 2 ^ suc (signBits (L .width)) - 1 - x < f
+      field-inside = down-inside f x down e l
+
+      pub field-there : At (record { 0 = f - 1 - (2 ^ suc (signBits (L .width)) - 1 - x) }) ≡ childAt L s (child L p i)
+      field-there = rw (← at-f) (sym (child-there L s f _ present (down-is f x down e l)))

@@ -12,6 +12,9 @@ use Rattle.format.specs.Entries.{slots}
 use Rattle.format.specs.Written.{Out, out, put, fill, walked}
 use Rattle.format.specs.Laws.Read.Written.{runs-none, runs-cons, put-room, fill-full, all-filled}
 
+pub out-same : {ks ks′ vs vs′ : List ℕ} {n n′ : ℕ} → ks ≡ ks′ → vs ≡ vs′ → n ≡ n′ → out ks vs n ≡ out ks′ vs′ n′
+out-same a b c = cc (a, b, c)
+
 pub full-kept : (es : List Entry) (ks vs : List ℕ) (n : ℕ) → min (length ks) (length vs) ≤ n → out ks vs n ≡ fill es (out ks vs n)
 full-kept es ks vs n h = sym (fill-full es ks vs n h)
 

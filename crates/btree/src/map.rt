@@ -17,7 +17,7 @@ ghost use Prim.Native.Nat.{_+_, _*_, _≤_};
 ghost use denote.Ref.{ptr};
 ghost use lib.ListN.{length};
 ghost use Rattle.format.specs.Layout.{layoutOf, standard, nested};
-ghost use Rattle.format.specs.Node.{leafCount};
+ghost use Rattle.format.specs.Node.{inner, kind, leafCount};
 ghost use Rattle.format.specs.Entries.{slots, listAt};
 ghost use Rattle.format.specs.Lookup.{lookupAt, bytesOf, placeOf};
 ghost use Rattle.format.specs.Readable.{Node, LeafNode};
@@ -55,8 +55,8 @@ fn visit_leaf(
     at
 }
 
-// Writes the entries from the node at `pos` on, from index `start` of both lists until the shorter is full, and returns the index past
-// what is written.
+// Writes the entries from the inner node at `pos` on, from index `start` of both lists until the shorter is full, and returns the index past what
+// is written. The field after the lesser children's is the greater child's, which no slot follows. A leaf takes no call of this function.
 fn visit_raw(
     archive: &[u8],
     layout: Layout,
@@ -65,28 +65,28 @@ fn visit_raw(
     values: &mut [u64],
     start: usize,
 ) -> usize
-    requires { ⌜ (layout .entries ≤ 15) × Node (layoutOf layout) standard (now archive) (pos .0) ⌝ }
+    requires { ⌜ (layout .entries ≤ 15) × Node (layoutOf layout) standard (now archive) (pos .0) × (kind (layoutOf layout) (now archive) (pos .0) ≡ inner) ⌝ }
     ensures { λ r. ⌜ out (now (keys .exit)) (now (values .exit)) r
         ≡ fill (listAt (layoutOf layout) (now (archive .entry)) (nested standard) (pos .0)) (out (now (keys .entry)) (now (values .entry)) start) ⌝ }
 {
     if keys.len() <= start || values.len() <= start {
         return start;
     }
-    let p = pos.0;
-    if archive[p] == 0 {
-        return visit_leaf(archive, layout, pos, keys, values, start);
-    }
     let mut at = start;
     let mut i = 0;
-    while i < layout.entries {
+    while i <= layout.entries {
         if let Child::At(q) = child_at(archive, layout, pos, i) {
-            at = visit_raw(archive, layout, q, keys, values, at);
+            let p = q.0;
+            if archive[p] == 0 {
+                at = visit_leaf(archive, layout, q, keys, values, at);
+            } else {
+                at = visit_raw(archive, layout, q, keys, values, at);
+            }
         }
-        at = visit_key_value_raw(archive, layout, pos, i, keys, values, at);
+        if i < layout.entries {
+            at = visit_key_value_raw(archive, layout, pos, i, keys, values, at);
+        }
         i += 1;
-    }
-    if let Child::At(q) = child_at(archive, layout, pos, layout.entries) {
-        at = visit_raw(archive, layout, q, keys, values, at);
     }
     at
 }
@@ -103,6 +103,10 @@ pub fn visit(
     ensures { λ r. ⌜ out (now (keys .exit)) (now (values .exit)) r
         ≡ walked (listAt (layoutOf layout) (now (archive .entry)) (nested standard) (root .0)) (now (keys .entry)) (now (values .entry)) ⌝ }
 {
+    let p = root.0;
+    if archive[p] == 0 {
+        return visit_leaf(archive, layout, root, keys, values, 0);
+    }
     visit_raw(archive, layout, root, keys, values, 0)
 }
 

@@ -1,10 +1,7 @@
 // What all readers read of an accepted node (rkyv's src/collections/btree/map/mod.rs): where a child's field leads, how many slots a leaf uses, and a
 // slot.
-use crate::quick::common_child;
-use crate::quick::common_len;
 use fields::primitive::u64_at;
 use fields::primitive::uint_at;
-use fields::rel_ptr::is_invalid_at;
 use fields::rel_ptr::ones;
 use format::Child;
 use format::Entry;
@@ -30,20 +27,21 @@ pub fn pointed(archive: &[u8], layout: Layout, field: Position) -> Position
     Position(f - 1 - back as usize)
 }
 
-// The child that field i of an inner node leads to; the field after the lesser children's is the greater child's.
+// The child that field i of an inner node leads to; the field after the lesser children's is the greater child's. The field is read once: 1 marks
+// an absent child, and other bits lead back as in `pointed`.
 pub fn child_at(archive: &[u8], layout: Layout, pos: Position, i: usize) -> Child
     requires { ⌜ (layout .entries ≤ 15) × InnerNode (layoutOf layout) (now archive) (pos .0) × (i ≤ layout .entries) ⌝ }
     ensures { λ r. ⌜ r ≡ childAt (layoutOf layout) (now (archive .entry)) (child (layoutOf layout) (pos .0) i) ⌝ }
 {
-    if layout.is_common() {
-        return common_child(archive, pos, i);
-    }
     let p = pos.0;
-    let field = Position(p + layout.node() + layout.pointer() * i);
-    if is_invalid_at(archive, layout, field) {
+    let width = layout.width;
+    let field = p + layout.node() + layout.pointer() * i;
+    let bits = uint_at(archive, field, width);
+    if bits == 1 {
         return Child::Absent;
     }
-    Child::At(pointed(archive, layout, field))
+    let back = ones(width) - bits;
+    Child::At(Position(field - 1 - back as usize))
 }
 
 // How many slots a leaf uses.
@@ -51,9 +49,6 @@ pub fn leaf_len(archive: &[u8], layout: Layout, pos: Position) -> usize
     requires { ⌜ (layout .entries ≤ 15) × LeafNode (layoutOf layout) (now archive) (pos .0) ⌝ }
     ensures { λ r. ⌜ r ≡ leafCount (layoutOf layout) (now (archive .entry)) (pos .0) ⌝ }
 {
-    if layout.is_common() {
-        return common_len(archive, pos);
-    }
     let p = pos.0;
     let width = layout.width;
     uint_at(archive, p + layout.node(), width) as usize

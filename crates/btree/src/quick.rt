@@ -1,8 +1,9 @@
 // Nothing here is needed but for speed: a reader of the walk and the lookup can skip this file.
 use crate::map::Seek;
 use crate::map::seek_slot;
+use crate::node::child_at;
+use crate::node::leaf_len;
 use crate::node::slot;
-use fields::primitive::u32_at;
 use fields::primitive::u64_at;
 use format::Child;
 use format::Common;
@@ -13,36 +14,12 @@ ghost use mathlib.Core.Path.{_≡_};
 ghost use Prim.Native.Nat.{_+_, _≤_};
 ghost use lib.ListN.{length};
 ghost use Rattle.format.specs.Layout.{layoutOf, layout32, standard, nested, headSize};
-ghost use Rattle.format.specs.Node.{child, leafCount};
 ghost use Rattle.format.specs.Entries.{slots};
 ghost use Rattle.format.specs.Lookup.{lookupAt};
-ghost use Rattle.format.specs.Readable.{childAt, Node, LeafNode, InnerNode};
+ghost use Rattle.format.specs.Readable.{Node};
 ghost use Rattle.format.specs.Written.{out, fill};
 
-// The child that field i of an inner node leads to, in the common layout: its sizes are constants here, and a field leads back or is absent.
-pub(crate) fn common_child(archive: &[u8], pos: Position, i: usize) -> Child
-    requires { ⌜ InnerNode layout32 (now archive) (pos .0) × (i ≤ 5) ⌝ }
-    ensures { λ r. ⌜ r ≡ childAt layout32 (now (archive .entry)) (child layout32 (pos .0) i) ⌝ }
-{
-    let p = pos.0;
-    let field = p + Common::NODE + Common::POINTER * i;
-    let bits = u32_at(archive, field) as usize;
-    if bits == 1 {
-        return Child::Absent;
-    }
-    Child::At(Position(field + bits - 0x1_0000_0000))
-}
-
-// How many slots a leaf uses, in the common layout.
-pub(crate) fn common_len(archive: &[u8], pos: Position) -> usize
-    requires { ⌜ LeafNode layout32 (now archive) (pos .0) ⌝ }
-    ensures { λ r. ⌜ r ≡ leafCount layout32 (now (archive .entry)) (pos .0) ⌝ }
-{
-    let p = pos.0;
-    u32_at(archive, p + Common::NODE) as usize
-}
-
-// The lookup from a node on, in the common layout: the loop over an inner node's keys has a known length.
+// The lookup from a node on, in the common layout: its sizes are constants here, and the loop over an inner node's keys has a known length.
 pub(crate) fn common_get(archive: &[u8], pos: Position, key: u64) -> Found
     requires { ⌜ Node layout32 standard (now archive) (pos .0) ⌝ }
     ensures { λ r. ⌜ r ≡ lookupAt layout32 (now (archive .entry)) key (nested standard) (pos .0) ⌝ }
@@ -51,7 +28,7 @@ pub(crate) fn common_get(archive: &[u8], pos: Position, key: u64) -> Found
     loop {
         let p = current.0;
         if archive[p] == 0 {
-            let n = common_len(archive, current);
+            let n = leaf_len(archive, Layout::COMMON, current);
             match seek_slot(archive, current, key, n) {
                 Seek::Equal(i) => return Found::Entry(slot(archive, Layout::COMMON, current, i)),
                 Seek::Less(_) => return Found::Nothing,
@@ -60,7 +37,7 @@ pub(crate) fn common_get(archive: &[u8], pos: Position, key: u64) -> Found
         match seek_slot(archive, current, key, Common::ENTRIES) {
             Seek::Equal(i) => return Found::Entry(slot(archive, Layout::COMMON, current, i)),
             Seek::Less(i) => {
-                let Child::At(q) = common_child(archive, current, i) else {
+                let Child::At(q) = child_at(archive, Layout::COMMON, current, i) else {
                     return Found::Nothing;
                 };
                 current = q;

@@ -2,20 +2,20 @@
 use Prim.Native.Nat.{ℕ, _+_, _-_, _≤_, _<_}
 use mathlib.Core.Path.{_≡_, ap, _∙_}
 use mathlib.Core.List.{[]}
-use mathlib.Core.Logic.{⊎-elim, ⊎-map}
+use mathlib.Core.Logic.{inl, ⊎-elim, ⊎-map}
 use native.Mathlib.Omega.{arith}
 use lib.ListN.{length}
-use Rattle.format.specs.Layout.{layoutOf, leafSize, standard, nested}
+use Rattle.format.specs.Layout.{layoutOf, standard, nested}
 use Rattle.format.specs.Node.{child}
-use Rattle.format.specs.Entries.{listAt, listChildren}
-use Rattle.format.specs.Readable.{childAt}
+use Rattle.format.specs.Entries.{listAt}
+use Rattle.format.specs.Readable.{childAt, Node}
 use Rattle.format.specs.Written.{out, put, fill}
 use Rattle.format.specs.Laws.Read.Children.{onChild}
 use Rattle.format.specs.Laws.Read.Node.{as-leaf, as-inner, node-room, child-falls}
 use Rattle.format.specs.Laws.Read.Written.{runs-none}
 use Rattle.btree.proofs.NextChild.{next-child}
-use Rattle.btree.proofs.Fills.{full-kept}
-use Rattle.btree.proofs.Runs.{child-run, child-skipped, inner-step, inner-done, leaf-run}
+use Rattle.btree.proofs.Fills.{out-same, full-kept}
+use Rattle.btree.proofs.Runs.{byte-inner, left, left-step, left-last, left-done, leaf-run}
 use borrow.Author.Needs.{needs}
 use borrow.Author.Tests.{leb-true}
 use borrow.Fn.Kinds.{In, Out}
@@ -39,19 +39,18 @@ abbrev below : ℕ → In 3 kinds.ps
 below t = and 3 kinds.ps (falls 3 kinds.ps _<_ μ t) visit-raw.Pre
 
 abbrev Inv-loop : lts.InvT-loop
-Inv-loop archive layout pos keys₀ values₀ start p at₀ i₀ keys values at i =
+Inv-loop archive layout pos keys₀ values₀ start at₀ i₀ keys values at i =
     let L = layoutOf layout in
-    let left = listChildren L archive (listAt L archive (nested standard)) (pos .0) in
-    let e = layout .entries in
-    (i ≤ e) × (pos .0 + leafSize L ≤ length archive) × (length keys ≡ length keys₀) × (length values ≡ length values₀)
-    × (fill (left (e - i) i) (out keys values at) ≡ fill (left (e - i₀) i₀) (out keys₀ values₀ at₀))
+    let rest = left L archive (listAt L archive (nested standard)) (pos .0) (layout .entries) in
+    (i ≤ layout .entries + 1) × (length keys ≡ length keys₀) × (length values ≡ length values₀)
+    × (fill (rest i) (out keys values at) ≡ fill (rest i₀) (out keys₀ values₀ at₀))
 
 abbrev μ-loop : lts.MeasureT-loop
-μ-loop archive layout pos keys₀ values₀ start p at₀ i₀ keys values at i = layout .entries - i
+μ-loop archive layout pos keys₀ values₀ start at₀ i₀ keys values at i = layout .entries + 1 - i
 
 abbrev calls : ℕ → lts.Claims
 calls t =
-    (visit-leaf.Asked, visit-leaf.Learnt, child-at.Asked, child-at.Learnt, below t, visit-raw.Post, visit-key-value-raw.Asked, visit-key-value-raw.Learnt)
+    (child-at.Asked, child-at.Learnt, visit-leaf.Asked, visit-leaf.Learnt, below t, visit-raw.Post, visit-key-value-raw.Asked, visit-key-value-raw.Learnt)
 
 -- A place or a need.
 abbrev Of : ℕ → (lts.Claims → In 3 kinds.ps → Out 3 kinds.ps kinds.r → lts.InvT-loop → lts.MeasureT-loop → Type 0) → Type 0
@@ -63,11 +62,25 @@ head t c = search
 abbrev start : (t : ℕ) → Of t lts.After-child-at → Of t lts.Start
 start t c = search
 
+-- A child lies lower, and is accepted.
+lower : (t : ℕ) (c : Of t lts.After-q) → let q = c .q .given .0 .0 .0 in
+    let a = start t (c .before .before) .args in
+    (q < t) × Node (layoutOf (a .layout)) standard (a .archive .now) q
+lower t c =
+    let read = c .before .before in
+    let pre = start t read .pre in
+    child-falls _ standard _ _ (pre .0) (pre .1 .1) (byte-inner _ _ _ (pre .1 .2)) (omega arith) (read .child-at .ensures) (c .q .given .1)
+
 -- Where the arms of the child's test meet: the child's entries are written, or there is no child.
 module _ (t : ℕ) (c : Of t lts.At-match-came) where
   lengths : let o = head t (c .before) .loop in (length (c .match .keys) ≡ length (o .keys)) × (length (c .match .values) ≡ length (o .values))
   lengths =
-      ⊎-elim (λ w. (ap length (w .10) ∙ w .6 .given, ap length (w .11) ∙ w .8 .given)) (λ w. (ap length (w .2), ap length (w .3))) (c .match .came)
+      ⊎-elim
+      (λ w. (ap length (w .12) ∙ w .8 .given, ap length (w .13) ∙ w .10 .given))
+      (⊎-elim
+      (λ w. (ap length (w .12) ∙ w .8 .given, ap length (w .13) ∙ w .10 .given))
+      (λ w. (ap length (w .2), ap length (w .3))))
+      (c .match .came)
 
   joined : let a = start t (c .before) .args in let o = head t (c .before) .loop in
       let L = layoutOf (a .layout) in
@@ -76,62 +89,81 @@ module _ (t : ℕ) (c : Of t lts.At-match-came) where
       ≡ fill (onChild [] (listAt L (a .archive .now) (nested standard)) next) (out (o .keys) (o .values) (o .at))
   joined =
       next-child _ _ fill [] (runs-none put) _ _ _ _ _ _ (c .before .child-at .ensures)
-      (⊎-map (λ w. (_, w .1 .given .1, rw (w .10, w .11, w .12) (w .5 .ensures))) (λ w. (w .1 .given .1, rw (w .2, w .3, w .4))) (c .match .came))
+      (⊎-elim
+      (λ w.
+      let there : Of t lts.After-q = record { before = record { before = c .before; match = w .0 }; q = w .1 } in
+      inl (_, w .1 .given .1, leaf-run _ _ put standard _ _ _ (lower t there .1) (w .4 .taken) (out-same (w .12) (w .13) (w .14) ∙ w .7 .ensures)))
+      (⊎-map (λ w. (_, w .1 .given .1, out-same (w .12) (w .13) (w .14) ∙ w .7 .ensures)) (λ w. (w .1 .given .1, out-same (w .2) (w .3) (w .4))))
+      (c .match .came))
+
+-- Where the arms of the slot's test meet: one slot more, or none is left.
+module _ (t : ℕ) (c : Of t lts.Joined5) where
+  abbrev met : Of t lts.At-match-came
+  met = c .before .before
+
+  kept : let o = head t (met .before) .loop in (length (c .if5 .keys) ≡ length (o .keys)) × (length (c .if5 .values) ≡ length (o .values))
+  kept =
+      ⊎-elim
+      (λ w. (ap length (w .8) ∙ w .4 .given ∙ lengths t met .0, ap length (w .9) ∙ w .6 .given ∙ lengths t met .1))
+      (λ w. (ap length (w .1) ∙ lengths t met .0, ap length (w .2) ∙ lengths t met .1))
+      (c .if5 .came)
+
+  passed : let h = head t (met .before) in
+      let a = start t (met .before) .args in
+      let L = layoutOf (a .layout) in
+      let rest = left L (a .archive .now) (listAt L (a .archive .now) (nested standard)) (a .pos .0) (a .layout .entries) in
+      fill (rest (h .loop .i + 1)) (out (c .if5 .keys) (c .if5 .values) (c .if5 .at)) ≡ fill (rest 0) (out (a .keys .now) (a .values .now) (a .start))
+  passed =
+      let sum = head t (met .before) .loop .inv .3 in
+      ⊎-elim
+      (λ w. left-step _ _ put _ _ _ _ _ _ _ (joined t met) sum (w .0 .taken) _ (out-same (w .8) (w .9) (w .10) ∙ w .3 .ensures))
+      (λ w. left-last _ _ put _ _ _ _ _ _ _ (out-same (w .1) (w .2) (w .3) ∙ joined t met) sum (omega arith) (w .0 .left))
+      (c .if5 .came)
 
 returns : (t : ℕ) → Of t lts.Need-returns
 returns t c =
     ⊎-elim (λ w. full-kept _ _ _ _ (omega arith)) (λ w. full-kept _ _ _ _ (omega (arith, leb-true))) (c .if1 .came)
 
-shared-slice-read-if3 : (t : ℕ) → Of t lts.Need-shared-slice-read-if3
-shared-slice-read-if3 t c = let start : Of t lts.Start = search in omega (arith, node-room _ _ _ (start .pre .1 .1))
-
-visit-leaf-requires : (t : ℕ) → Of t lts.Need-visit-leaf-requires
-visit-leaf-requires t c κs = (search needs, search as-leaf)
-
-returns-2 : (t : ℕ) → Of t lts.Need-returns-2
-returns-2 t c = search leaf-run
-
 loop-holds : (t : ℕ) → Of t lts.Need-loop-holds
-loop-holds t c = search (node-room, needs)
+loop-holds t c = search needs
 
 child-at-requires : (t : ℕ) → Of t lts.Need-child-at-requires
-child-at-requires t c κs = (search needs, search as-inner, omega arith)
+child-at-requires t c κs =
+    let start : Of t lts.Start = search in
+    let pre = start .pre .1 in
+    (pre .0, as-inner _ standard _ (pre .1) (byte-inner _ _ _ (pre .2)), omega arith)
+
+shared-slice-read-if4 : (t : ℕ) → Of t lts.Need-shared-slice-read-if4
+shared-slice-read-if4 t c = let there : Of t lts.After-q = search in omega (arith, node-room _ _ _ (lower t there .1))
+
+visit-leaf-requires : (t : ℕ) → Of t lts.Need-visit-leaf-requires
+visit-leaf-requires t c κs =
+    let there : Of t lts.After-q = search in
+    let leaf : Of t lts.Then4 = search in
+    (start t (there .before .before) .pre .1 .0, as-leaf _ standard _ (lower t there .1) (leaf .if4 .taken))
 
 visit-raw-requires : (t : ℕ) → Of t lts.Need-visit-raw-requires
 visit-raw-requires t c κs =
     let there : Of t lts.After-q = search in
-    let read : Of t lts.After-child-at = search in
+    let inner : Of t lts.Else4 = search in
+    let child = lower t there in
+    (child .0, (start t (there .before .before) .pre .1 .0, child .1, as-inner _ standard _ (child .1) (inner .if4 .left) .is))
+
+visit-key-value-raw-requires : (t : ℕ) → Of t lts.Need-visit-key-value-raw-requires
+visit-key-value-raw-requires t c κs =
     let start : Of t lts.Start = search in
-    let falls = child-falls _ standard _ _ (start .pre .0) (start .pre .1 .1) (search) (omega arith) (read .child-at .ensures) (there .q .given .1) in
-    (falls .0, (search needs, falls .1))
+    (search needs, omega (arith, node-room _ _ _ (start .pre .1 .1)), search needs)
 
 loop-again : (t : ℕ) → Of t lts.Need-loop-again
 loop-again t c =
-    let met : Of t lts.At-match-came = search in
-    let inv = head t (met .before) .loop .inv in (
-      search needs,
-      search needs,
-      c .before .before .before .keys3 .given ∙ lengths t met .0 ∙ inv .2,
-      c .before .values3 .given ∙ lengths t met .1 ∙ inv .3,
-      search (inner-step, joined t met),
-    )
+    let inv = head t (met t c .before) .loop .inv in
+    (omega arith, kept t c .0 ∙ inv .1, kept t c .1 ∙ inv .2, passed t c)
 
-child-at-requires-2 : (t : ℕ) → Of t lts.Need-child-at-requires-2
-child-at-requires-2 t c κs = (search needs, search as-inner, omega arith)
-
-visit-raw-requires-2 : (t : ℕ) → Of t lts.Need-visit-raw-requires-2
-visit-raw-requires-2 t c κs =
-    let there : Of t lts.After-q2 = search in
-    let read : Of t lts.After-child-at2 = search in
+returns-2 : (t : ℕ) → Of t lts.Need-returns-2
+returns-2 t c =
     let start : Of t lts.Start = search in
-    let falls = child-falls _ standard _ _ (start .pre .0) (start .pre .1 .1) (search) (omega arith) (read .child-at2 .ensures) (there .q2 .given .1) in
-    (falls .0, (search needs, falls .1))
-
-returns-3 : (t : ℕ) → Of t lts.Need-returns-3
-returns-3 t c = search (inner-done, child-run)
-
-returns-4 : (t : ℕ) → Of t lts.Need-returns-4
-returns-4 t c = search (inner-done, child-skipped)
+    let head : Of t lts.At-loop = search in
+    left-done _ _ put standard _ _ _ _ (start .pre .1 .1) (start .pre .1 .2) (omega arith) (head .loop .inv .3)
 
 pub +visit-raw-spec : {M : Type 1} → statement M
 +visit-raw-spec =
@@ -139,27 +171,17 @@ pub +visit-raw-spec : {M : Type 1} → statement M
     Inv-loop
     μ-loop
     (returns t)
-    (shared-slice-read-if3 t)
-    (visit-leaf-requires t)
-    (search needs)
-    (search needs)
-    (returns-2 t)
     (loop-holds t)
     (child-at-requires t)
     (search needs)
+    (shared-slice-read-if4 t)
+    (visit-leaf-requires t)
     (visit-raw-requires t)
     (search needs)
-    (search needs)
+    (visit-key-value-raw-requires t)
     (search needs)
     (search needs)
     (loop-again t)
-    (child-at-requires-2 t)
-    (search needs)
-    (visit-raw-requires-2 t)
     (search needs)
     (search needs)
-    (search needs)
-    (returns-3 t)
-    (search needs)
-    (search needs)
-    (returns-4 t)
+    (returns-2 t)

@@ -23,13 +23,13 @@ abbrev μ-loop : tie.MeasureT-loop
 loop-holds : tie.Need-loop-holds Inv-loop μ-loop
 loop-holds c = (search node-room, search, refl)
 
-common-len-requires : tie.Need-common-len-requires Inv-loop μ-loop
-common-len-requires c κs = search as-leaf
+leaf-len-requires : tie.Need-leaf-len-requires Inv-loop μ-loop
+leaf-len-requires c κs = (search needs, search as-leaf)
 
 seek-slot-requires : tie.Need-seek-slot-requires Inv-loop μ-loop
 seek-slot-requires c κs =
     let head : tie.At-loop Inv-loop μ-loop = search in
-    let few = leaf-count _ standard _ _ (head .loop .inv .1) (search) (c .common-len .ensures) in
+    let few = leaf-count _ standard _ _ (head .loop .inv .1) (search) (c .leaf-len .ensures) in
     omega arith
 
 slot-requires : tie.Need-slot-requires Inv-loop μ-loop
@@ -48,8 +48,8 @@ slot-requires-2 c κs = (search needs, omega arith, search seek-slot)
 returns-3 : tie.Need-returns-3 Inv-loop μ-loop
 returns-3 c = search inner-hit
 
-common-child-requires : tie.Need-common-child-requires Inv-loop μ-loop
-common-child-requires c κs = (search as-inner, search seek-child)
+child-at-requires : tie.Need-child-at-requires Inv-loop μ-loop
+child-at-requires c κs = (search needs, search as-inner, search seek-child)
 
 returns-4 : tie.Need-returns-4 Inv-loop μ-loop
 returns-4 c = search inner-miss
@@ -61,8 +61,8 @@ down : (c : tie.After-q Inv-loop μ-loop)
     let q = c .q .given .0 .0 .0 in
     (q < head .loop .current .0) × Node layout32 standard (a .archive .now) q
 down c =
-    let read : tie.After-common-child Inv-loop μ-loop = search in
-    child-falls _ _ _ _ refl (search) (search) (search seek-child) (read .common-child .ensures) (c .q .given .1)
+    let read : tie.After-child-at Inv-loop μ-loop = search in
+    child-falls _ _ _ _ refl (search) (search) (search seek-child) (read .child-at .ensures) (c .q .given .1)
 
 loop-less : tie.Need-loop-less Inv-loop μ-loop
 loop-less c = down (c .before) .0
@@ -78,7 +78,7 @@ common-get-spec =
     μ-loop
     loop-holds
     (search needs)
-    common-len-requires
+    leaf-len-requires
     seek-slot-requires
     (search needs)
     slot-requires
@@ -90,7 +90,7 @@ common-get-spec =
     slot-requires-2
     returns-3
     (search needs)
-    common-child-requires
+    child-at-requires
     (search needs)
     (search needs)
     returns-4
