@@ -54,7 +54,7 @@ pub fn leaf_len(archive: &[u8], layout: Layout, pos: Position) -> usize
     uint_at(archive, p + layout.node(), width) as usize
 }
 
-pub(crate) fn slot(archive: &[u8], layout: Layout, pos: Position, i: usize) -> Entry
+pub fn slot(archive: &[u8], layout: Layout, pos: Position, i: usize) -> Entry
     requires { ⌜ (layout .entries ≤ 15) × (pos .0 + headSize (layoutOf layout) ≤ length (now archive)) × (i < layout .entries) ⌝ }
     ensures { λ r. ⌜ r ≡ slot (layoutOf layout) (now (archive .entry)) (pos .0) i ⌝ }
 {

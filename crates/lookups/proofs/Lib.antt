@@ -1,1 +1,2 @@
 pub mod ManyLookups
+pub mod Finds

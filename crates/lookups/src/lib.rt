@@ -1,4 +1,8 @@
-// Many lookups in one accepted archive, from its root.
+// Lookups in one accepted archive, from its root: of one key in `map`, of many keys here.
+pub mod map;
+pub mod quick;
+
+use crate::map::get_key_value_raw;
 use fields::least::least;
 use format::Found;
 use format::Layout;
@@ -28,7 +32,7 @@ fn look_up_at(
         (many (now (values .entry)) found) ⌝ }
 {
     let key = keys[i];
-    match btree::map::get_key_value_raw(archive, layout, root, key) {
+    match get_key_value_raw(archive, layout, root, key) {
         Found::Nothing => found,
         Found::Entry(e) => {
             values[i] = e.value;

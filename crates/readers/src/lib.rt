@@ -104,7 +104,7 @@ pub fn lookup(archive: &[u8], layout: Layout, key: u64) -> LookupAnswer
                 return LookupAnswer::Nothing;
             }
             let root = root_of(archive, layout);
-            let Found::Entry(e) = btree::map::get_key_value_raw(archive, layout, root, key) else {
+            let Found::Entry(e) = lookups::map::get_key_value_raw(archive, layout, root, key) else {
                 return LookupAnswer::Nothing;
             };
             LookupAnswer::Entry(e)
@@ -124,7 +124,7 @@ pub fn lookup_bytes<'a>(archive: &'a [u8], layout: Layout, key: u64) -> &'a [u8]
     if count == 0 {
         return &archive[0..0];
     }
-    btree::map::get_bytes(archive, layout, root_of(archive, layout), key)
+    lookups::map::get_bytes(archive, layout, root_of(archive, layout), key)
 }
 
 // Writes keys and values in the order of `visit` until the shorter list is full.

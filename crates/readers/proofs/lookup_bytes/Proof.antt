@@ -3,7 +3,7 @@ use mathlib.Core.Path.{refl, sym, _∙_}
 use native.Mathlib.Omega.{arith}
 use Rattle.format.specs.Layout.{standard}
 use Rattle.format.specs.Laws.Calls.Accepted.{node, bytes-refuses, bytes-none, bytes-gives, place-refuses, place-none, place-gives}
-use Rattle.btree.proofs.Finds.{same-place}
+use Rattle.lookups.proofs.Finds.{same-place}
 use borrow.Author.Needs.{needs}
 use Rattle.readers.proofs.Told.{accepted-told, refused-told, root-requires}
 use Rattle.readers.proofs.lookup_bytes.Statement.{statement}

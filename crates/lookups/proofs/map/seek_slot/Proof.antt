@@ -1,11 +1,11 @@
--- `btree::map::seek_slot` meets its contract. Assumes nothing.
-use Rattle.btree.proofs.Finds.{seek-less, seek-equal, seek-greater, seek-end}
-use Rattle.btree.specs.Seek.{seekAt}
+-- `lookups::map::seek_slot` meets its contract. Assumes nothing.
+use Rattle.lookups.proofs.Finds.{seek-less, seek-equal, seek-greater, seek-end}
+use Rattle.lookups.specs.Seek.{seekAt}
 use Prim.Native.Nat.{_≤_, _-_}
 use borrow.Author.Needs.{needs}
 use mathlib.Core.Path.{_≡_}
-use Rattle.btree.proofs.map.seek_slot.Statement.{statement}
-use Rattle.btree.proofs.map.seek_slot.Tie as tie
+use Rattle.lookups.proofs.map.seek_slot.Statement.{statement}
+use Rattle.lookups.proofs.map.seek_slot.Tie as tie
 
 abbrev Inv-loop : tie.InvT-loop
 Inv-loop archive key n p i₀ i = (i ≤ n) × (seekAt archive p key (n - i) i ≡ seekAt archive p key (n - i₀) i₀)

@@ -5,8 +5,8 @@ use lib.Dec.{eqb, ltb}
 use Rattle.format.specs.Layout.{keysFrom}
 use Rattle.format.specs.Bytes.{leAt}
 use Rattle.format.specs.Lookup.{Order, less, equal, greater, orderOf}
-use Rattle.btree.specs.declared.map.Seek.{Seek}
-use Rattle.btree.specs.declared.map.Seek.the-variants.{Equal, Less}
+use Rattle.lookups.specs.declared.map.Seek.{Seek}
+use Rattle.lookups.specs.declared.map.Seek.the-variants.{Equal, Less}
 
 abbrev compared : ℕ → ℕ → Order
 compared key k = orderOf (ltb key k) (eqb key k)

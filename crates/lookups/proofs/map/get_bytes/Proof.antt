@@ -1,12 +1,12 @@
--- `btree::map::get_bytes` meets its contract. Assumes nothing.
+-- `lookups::map::get_bytes` meets its contract. Assumes nothing.
 use Prim.Native.Nat.{_+_, _≤_}
 use mathlib.Core.Path.{refl}
 use lib.ListN.{length}
-use Rattle.btree.proofs.Finds.{found-room, bytes-some, bytes-none, place-some, place-none}
+use Rattle.lookups.proofs.Finds.{found-room, bytes-some, bytes-none, place-some, place-none}
 use native.Mathlib.Omega.{arith}
 use borrow.Author.Needs.{needs}
-use Rattle.btree.proofs.map.get_bytes.Statement.{statement}
-use Rattle.btree.proofs.map.get_bytes.Tie as tie
+use Rattle.lookups.proofs.map.get_bytes.Statement.{statement}
+use Rattle.lookups.proofs.map.get_bytes.Tie as tie
 
 returns : tie.Need-returns
 returns c =

@@ -21,10 +21,10 @@ use Rattle.format.specs.Lookup.{Order, less, equal, greater, order, lookupSlots
 use Rattle.format.specs.Readable.{LeadsTo, childAt, Node, leafG, innerG, Good, LeafNode, InnerNode}
 use Rattle.format.specs.Laws.Read.Children.{onChild, on-at, on-absent, look-child, child-leads}
 use Rattle.format.specs.Laws.Read.Node.{kind-leaf, as-leaf, as-inner, lookup-node}
-use Rattle.btree.specs.Seek.{orderAt, seekAt}
-use Rattle.btree.specs.declared.map.Seek.{Seek}
-use Rattle.btree.specs.declared.map.Seek.the-variants.{Equal, Less}
+use Rattle.lookups.specs.Seek.{orderAt, seekAt}
+use Rattle.lookups.specs.declared.map.Seek.{Seek}
+use Rattle.lookups.specs.declared.map.Seek.the-variants.{Equal, Less}
 use Rattle.btree.proofs.Runs.{one-left}
 
 -- ---- the scan of a node's slots
 
