@@ -37,17 +37,17 @@ behind h f n q e b l = go (decLt n (2 ^ h)) (decLt (2 ^ suc h - suc n) f)
     go (no k) (no d) = absurd (below≢at q (sym (leads-below f (2 ^ suc h - suc n) (ofTwos h n) (ofTwos-high h n (omega (arith, k))) (omega (arith, d))) ∙ e))
 
 module _ (L : Layout) (s : List ℕ) where
-  -- x is what the code reads at the field f.
-  module _ (f x : ℕ) (d : Down L s f f) (e : x ≡ leAt (pointer L) s f) (l : x < 2 ^ suc (signBits (L .width))) where
+  -- x is what the code reads at the field f, and o the bits of -1. What x lacks of them is the distance less one.
+  module _ (f x o : ℕ) (d : Down L s f f) (e : x ≡ leAt (pointer L) s f) (l : x < 2 ^ suc (signBits (L .width)))
+      (all : o ≡ 2 ^ suc (signBits (L .width)) - 1) where
     back : Behind (signBits (L .width)) f x (d .node)
     unfolding target
     back = behind (signBits (L .width)) f x (d .node) (rw (← e) at (d .leads)) (d .lower) l
 
-    -- What the bits lack of those of -1 is the distance less one.
-    pub down-inside : 2 ^ suc (signBits (L .width)) - 1 - x < f
+    pub down-inside : o - x < f
     down-inside = let far = back .inside in omega arith
 
-    pub down-is : target L s f ≡ at (f - 1 - (2 ^ suc (signBits (L .width)) - 1 - x))
+    pub down-is : target L s f ≡ at (f - 1 - (o - x))
     down-is = let far = back .inside in let to = back .is in d .leads ∙ ap at (omega arith)
 
   -- f is the field of child i of the inner node at p as the code computes it, and x what it reads there.
@@ -56,7 +56,8 @@ module _ (L : Layout) (s : List ℕ) where
     unfolding absent
     field-absent h = rw (← at-f) (sym (child-absent L s f (eq-eqb _ _ (sym e ∙ h))))
 
-    module _ (l : x < 2 ^ suc (signBits (L .width))) (n : InnerNode L s p) (le : i ≤ L .entries) (h : x ≡ 1 → ⊥) where
+    module _ (o : ℕ) (l : x < 2 ^ suc (signBits (L .width))) (all : o ≡ 2 ^ suc (signBits (L .width)) - 1) (n : InnerNode L s p) (le : i ≤ L .entries)
+        (h : x ≡ 1 → ⊥) where
       present : absent L s f ≡ false
       unfolding absent
       present = ne-eqb _ _ (λ z. h (e ∙ z))
@@ -67,8 +68,8 @@ module _ (L : Layout) (s : List ℕ) where
           let low = d .lower in
           record { node = d .node; leads = ap (target L s) at-f ∙ d .leads; lower = omega arith }
 
-      pub field-inside : 2 ^ suc (signBits (L .width)) - 1 - x < f
-      field-inside = down-inside f x down e l
+      pub field-inside : o - x < f
+      field-inside = down-inside f x o down e l all
 
-      pub field-there : At (record { 0 = f - 1 - (2 ^ suc (signBits (L .width)) - 1 - x) }) ≡ childAt L s (child L p i)
-      field-there = rw (← at-f) (sym (child-there L s f _ present (down-is f x down e l)))
+      pub field-there : At (record { 0 = f - 1 - (o - x) }) ≡ childAt L s (child L p i)
+      field-there = rw (← at-f) (sym (child-there L s f _ present (down-is f x o down e l all)))

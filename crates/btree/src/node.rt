@@ -10,25 +10,13 @@ use format::Position;
 ghost use mathlib.Core.Path.{_≡_};
 ghost use Prim.Native.Nat.{_+_, _<_, _≤_};
 ghost use lib.ListN.{length};
-ghost use Rattle.format.specs.Layout.{layoutOf, pointer, headSize};
-ghost use Rattle.format.specs.RelPtr.{at, target};
+ghost use Rattle.format.specs.Layout.{layoutOf, headSize};
 ghost use Rattle.format.specs.Node.{child, leafCount, slot};
-ghost use Rattle.format.specs.Readable.{childAt, LeafNode, InnerNode, Down};
+ghost use Rattle.format.specs.Readable.{childAt, LeafNode, InnerNode};
 ghost use Rattle.format.specs.Written.{out, put};
 
-// Where a field leads that leads back: what its bits lack of the bits of -1 is the distance less one.
-pub fn pointed(archive: &[u8], layout: Layout, field: Position) -> Position
-    requires { ⌜ (field .0 + pointer (layoutOf layout) ≤ length (now archive)) × Down (layoutOf layout) (now archive) (field .0) (field .0) ⌝ }
-    ensures { λ r. ⌜ target (layoutOf layout) (now (archive .entry)) (field .0) ≡ at (r .0) ⌝ }
-{
-    let f = field.0;
-    let width = layout.width;
-    let back = ones(width) - uint_at(archive, f, width);
-    Position(f - 1 - back as usize)
-}
-
-// The child that field i of an inner node leads to; the field after the lesser children's is the greater child's. The field is read once: 1 marks
-// an absent child, and other bits lead back as in `pointed`.
+// The child that field i of an inner node leads to; the field after the lesser children's is the greater child's. 1 marks an absent child; what other
+// bits lack of the bits of -1 is the distance back less one.
 pub fn child_at(archive: &[u8], layout: Layout, pos: Position, i: usize) -> Child
     requires { ⌜ (layout .entries ≤ 15) × InnerNode (layoutOf layout) (now archive) (pos .0) × (i ≤ layout .entries) ⌝ }
     ensures { λ r. ⌜ r ≡ childAt (layoutOf layout) (now (archive .entry)) (child (layoutOf layout) (pos .0) i) ⌝ }

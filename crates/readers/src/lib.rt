@@ -1,5 +1,6 @@
 // The readers of a whole archive, at a layout: each checks or certifies it first.
-use btree::node::pointed;
+use fields::primitive::uint_at;
+use fields::rel_ptr::ones;
 use format::Bound;
 use format::CheckAnswer;
 use format::Entry;
@@ -46,15 +47,17 @@ pub enum ManyAnswer {
     Refused(Refusal),
 }
 
-// The root of an accepted archive that has entries.
+// The root of an accepted archive that has entries: what the bits of the record's offset lack of those of -1 is the distance less one.
 fn root_of(archive: &[u8], layout: Layout) -> Position
     requires { ⌜ (recordSize (layoutOf layout) ≤ length (now archive))
         × Down (layoutOf layout) (now archive) (length (now archive) - recordSize (layoutOf layout))
         (length (now archive) - recordSize (layoutOf layout)) ⌝ }
     ensures { λ r. ⌜ target (layoutOf layout) (now (archive .entry)) (length (now (archive .entry)) - recordSize (layoutOf layout)) ≡ at (r .0) ⌝ }
 {
-    let record = Position(archive.len() - layout.record());
-    pointed(archive, layout, record)
+    let record = archive.len() - layout.record();
+    let width = layout.width;
+    let back = ones(width) - uint_at(archive, record, width);
+    Position(record - 1 - back as usize)
 }
 
 // The check, and then what certification asks beyond it.

@@ -43,7 +43,7 @@ inside c =
     let sum : tie.After-pointer = search in
     let read = c .before .before .uint-at .ensures in
     let pre = start sum .pre in
-    rw (c .ones .ensures) (field-inside (L sum) _ _ _ _ _ (same sum) (read .0) (read .1) (pre .1) (pre .2) (c .before .if1 .left))
+    field-inside (L sum) _ _ _ _ _ (same sum) (read .0) _ (read .1) (c .ones .ensures) (pre .1) (pre .2) (c .before .if1 .left)
 
 sub-back : tie.Need-sub-back
 sub-back c = omega (arith, c .ones .ensures, c .before .before .uint-at .ensures .1)
@@ -59,7 +59,7 @@ returns-2 c =
     let sum : tie.After-pointer = search in
     let read = c .before .before .uint-at .ensures in
     let pre = start sum .pre in
-    rw (c .ones .ensures) (field-there (L sum) _ _ _ _ _ (same sum) (read .0) (read .1) (pre .1) (pre .2) (c .before .if1 .left))
+    field-there (L sum) _ _ _ _ _ (same sum) (read .0) _ (read .1) (c .ones .ensures) (pre .1) (pre .2) (c .before .if1 .left)
 
 pub child-at-spec : {M : Type 1} → statement M
 child-at-spec =
