@@ -1,5 +1,4 @@
-// What certification asks beyond the check, in one pass over the nodes that the check has accepted: whether one is hollow, and whether the
-// keys strictly ascend.
+// What certification asks beyond the check, in one pass over the accepted nodes: whether one is hollow, and whether the keys strictly ascend.
 use btree::node::child_at;
 use btree::node::leaf_len;
 use fields::primitive::u64_at;
@@ -9,14 +8,13 @@ use format::Layout;
 use format::Position;
 ghost use mathlib.Core.Path.{_≡_};
 ghost use Prim.Native.Nat.{_+_, _<_, _≤_};
-ghost use lib.ListN.{length};
+ghost use lib.ListN.{length, getD};
 ghost use Rattle.format.specs.Layout.{layoutOf, standard, nested, headSize};
-ghost use Rattle.format.specs.Node.{inner, kind, leafCount, slot};
-ghost use Rattle.format.specs.Entries.{slots, listAt};
+ghost use Rattle.format.specs.Node.{kind, slot};
+ghost use Rattle.format.specs.Entries.{listAt};
 ghost use Rattle.format.specs.Certify.{hollow, hollowAt, ascends};
-ghost use Rattle.format.specs.Readable.{Node, LeafNode};
-ghost use Rattle.format.specs.Written.{runs};
-ghost use Rattle.certification.specs.Survey.{after, step, raised};
+ghost use Rattle.format.specs.Readable.{Node, InnerNode};
+ghost use Rattle.certification.specs.Survey.{after, step, raised, Passed};
 
 // The keys passed: whether there was one, the last, and whether each was above the one before. The two flags are whole words, 1 or 0: of a struct
 // with bools the compiler copies the padding too, which stalls.
@@ -61,54 +59,57 @@ fn note_slot(archive: &[u8], layout: Layout, pos: Position, i: usize, order: Key
     note_key(order, u64_at(archive, p + Layout::KEYS + 8 * i))
 }
 
-fn note_leaf(archive: &[u8], layout: Layout, pos: Position, start: KeyOrder) -> KeyOrder
-    requires { ⌜ (layout .entries ≤ 15) × LeafNode (layoutOf layout) (now archive) (pos .0) ⌝ }
-    ensures { λ r. ⌜ r
-        ≡ runs step (slots (layoutOf layout) (now (archive .entry)) (pos .0) (leafCount (layoutOf layout) (now (archive .entry)) (pos .0)) 0) start ⌝ }
+// A leaf, after the keys passed before it; `known` tells whether a hollow node is known already. A leaf without slots is hollow.
+fn note_leaf(archive: &[u8], layout: Layout, pos: Position, seen: KeyOrder, known: usize) -> Pass
+    requires { ⌜ (layout .entries ≤ 15) × Node (layoutOf layout) standard (now archive) (pos .0) × (getD (now archive) (pos .0) 0 ≡ 0) ⌝ }
+    ensures { λ r. ⌜ Passed (layoutOf layout) (now (archive .entry)) (pos .0) seen known r ⌝ }
 {
     let n = leaf_len(archive, layout, pos);
-    let mut order = start;
+    let mut order = seen;
     let mut i = 0;
     while i < n {
         order = note_slot(archive, layout, pos, i, order);
         i += 1;
     }
-    order
+    let mut hollow = known;
+    if n == 0 {
+        hollow = 1;
+    }
+    Pass { order, hollow }
 }
 
-// The flag for hollow nodes, raised where this one is hollow: an empty leaf, or an inner node whose first child is absent.
+// The flag for hollow nodes, raised where an inner node's first child is absent.
 fn note_hollow(archive: &[u8], layout: Layout, pos: Position, known: usize) -> usize
-    requires { ⌜ (layout .entries ≤ 15) × Node (layoutOf layout) standard (now archive) (pos .0) ⌝ }
+    requires { ⌜ (layout .entries ≤ 15) × InnerNode (layoutOf layout) (now archive) (pos .0) ⌝ }
     ensures { λ r. ⌜ r ≡ raised known (hollow (layoutOf layout) (now (archive .entry)) (pos .0) (kind (layoutOf layout) (now (archive .entry)) (pos .0))) ⌝ }
 {
     let p = pos.0;
-    if archive[p] == 0 {
-        if leaf_len(archive, layout, pos) == 0 {
-            return 1;
-        }
-        return known;
-    }
     if is_invalid_at(archive, layout, Position(p + layout.node())) {
         return 1;
     }
     known
 }
 
-// An inner node and the nodes below it, after the keys passed at the start; `known` tells whether a hollow node is known already. The field after
-// the lesser children's is the greater child's, which no slot follows.
+// An inner node and the nodes below it. The field after the lesser children's is the greater child's, which no slot follows. The order of the keys
+// passed before it comes as three numbers, since numbers pass in registers and a struct passes through memory.
 fn certify_inner(
     archive: &[u8],
     layout: Layout,
     pos: Position,
-    start: KeyOrder,
+    some: usize,
+    last: u64,
+    ascends: usize,
     known: usize,
 ) -> Pass
-    requires { ⌜ (layout .entries ≤ 15) × Node (layoutOf layout) standard (now archive) (pos .0) × (kind (layoutOf layout) (now archive) (pos .0) ≡ inner) ⌝ }
-    ensures { λ r. ⌜ (r .order ≡ runs step (listAt (layoutOf layout) (now (archive .entry)) (nested standard) (pos .0)) start)
-        × (r .hollow ≡ raised known (hollowAt (layoutOf layout) (now (archive .entry)) (nested standard) (pos .0))) ⌝ }
+    requires { ⌜ (layout .entries ≤ 15) × Node (layoutOf layout) standard (now archive) (pos .0) × (getD (now archive) (pos .0) 0 ≡ 0 → ⊥) ⌝ }
+    ensures { λ r. ⌜ Passed (layoutOf layout) (now (archive .entry)) (pos .0) (record { some = some; last = last; ascends = ascends }) known r ⌝ }
 {
     let mut hollow = note_hollow(archive, layout, pos, known);
-    let mut order = start;
+    let mut order = KeyOrder {
+        some,
+        last,
+        ascends,
+    };
     let mut i = 0;
     while i <= layout.entries {
         if let Child::At(q) = child_at(archive, layout, pos, i) {
@@ -125,49 +126,22 @@ fn certify_inner(
 }
 
 // The nodes from `pos` on.
-fn certify_node(
-    archive: &[u8],
-    layout: Layout,
-    pos: Position,
-    start: KeyOrder,
-    known: usize,
-) -> Pass
+fn certify_node(archive: &[u8], layout: Layout, pos: Position, seen: KeyOrder, known: usize) -> Pass
     requires { ⌜ (layout .entries ≤ 15) × Node (layoutOf layout) standard (now archive) (pos .0) ⌝ }
-    ensures { λ r. ⌜ (r .order ≡ runs step (listAt (layoutOf layout) (now (archive .entry)) (nested standard) (pos .0)) start)
-        × (r .hollow ≡ raised known (hollowAt (layoutOf layout) (now (archive .entry)) (nested standard) (pos .0))) ⌝ }
+    ensures { λ r. ⌜ Passed (layoutOf layout) (now (archive .entry)) (pos .0) seen known r ⌝ }
 {
     let p = pos.0;
     if archive[p] == 0 {
-        let hollow = note_hollow(archive, layout, pos, known);
-        let order = note_leaf(archive, layout, pos, start);
-        return Pass { order, hollow };
+        return note_leaf(archive, layout, pos, seen, known);
     }
-    certify_inner(archive, layout, pos, start, known)
+    let some = seen.some;
+    let last = seen.last;
+    let ascends = seen.ascends;
+    certify_inner(archive, layout, pos, some, last, ascends, known)
 }
 
-// The same for the root. It calls `certify_inner` itself, so that this one stays a function of its own in the compiled program and `certify_node`
-// becomes part of it: a leaf then takes no call. Without it the pass takes twice as long.
-fn certify_root(
-    archive: &[u8],
-    layout: Layout,
-    pos: Position,
-    start: KeyOrder,
-    known: usize,
-) -> Pass
-    requires { ⌜ (layout .entries ≤ 15) × Node (layoutOf layout) standard (now archive) (pos .0) ⌝ }
-    ensures { λ r. ⌜ (r .order ≡ runs step (listAt (layoutOf layout) (now (archive .entry)) (nested standard) (pos .0)) start)
-        × (r .hollow ≡ raised known (hollowAt (layoutOf layout) (now (archive .entry)) (nested standard) (pos .0))) ⌝ }
-{
-    let p = pos.0;
-    if archive[p] == 0 {
-        let hollow = note_hollow(archive, layout, pos, known);
-        let order = note_leaf(archive, layout, pos, start);
-        return Pass { order, hollow };
-    }
-    certify_inner(archive, layout, pos, start, known)
-}
-
-// The nodes from the root on. A hollow node anywhere comes before keys that do not ascend, so neither ends the pass.
+// The nodes from the root on. A hollow node anywhere comes before keys that do not ascend, so neither ends the pass. The root does not go through
+// `certify_node`, so that this one has a single caller and becomes part of `certify_inner` in the compiled program: a leaf then takes no call.
 pub fn certify(archive: &[u8], layout: Layout, root: Position) -> Survey
     requires { ⌜ (layout .entries ≤ 15) × Node (layoutOf layout) standard (now archive) (root .0) ⌝ }
     ensures { λ r. ⌜ (r .hollow ≡ hollowAt (layoutOf layout) (now (archive .entry)) (nested standard) (root .0))
@@ -178,10 +152,14 @@ pub fn certify(archive: &[u8], layout: Layout, root: Position) -> Survey
         last: 0,
         ascends: 1,
     };
-    let pass = certify_root(archive, layout, root, start, 0);
-    let order = pass.order;
+    let p = root.0;
+    let pass = if archive[p] == 0 {
+        note_leaf(archive, layout, root, start, 0)
+    } else {
+        certify_inner(archive, layout, root, 0, 0, 1, 0)
+    };
     Survey {
         hollow: pass.hollow == 1,
-        ascends: order.ascends == 1,
+        ascends: pass.order.ascends == 1,
     }
 }

@@ -6,20 +6,19 @@ use mathlib.Core.List.{[]}
 use mathlib.Core.Bool.{Bool, false}
 use mathlib.Core.Logic.{⊎-elim, ⊎-map}
 use native.Mathlib.Omega.{arith}
-use lib.ListN.{length, getD}
+use lib.ListN.{length}
 use Rattle.format.specs.Layout.{Layout, layoutOf, leafSize, standard, nested}
 use Rattle.format.specs.Node.{child}
-use Rattle.format.specs.Entries.{listAt}
-use Rattle.format.specs.Certify.{hollowAt}
+use Rattle.format.specs.Entries.{listChildren, listAt}
+use Rattle.format.specs.Certify.{anyChildren, hollowAt}
 use Rattle.format.specs.Readable.{childAt}
 use Rattle.format.specs.Written.{runs}
 use Rattle.format.specs.Laws.Read.Children.{onChild}
-use Rattle.format.specs.Laws.Read.Node.{as-leaf, as-inner, node-room, child-falls}
+use Rattle.format.specs.Laws.Read.Node.{as-inner, node-room, child-falls}
 use Rattle.format.specs.Laws.Read.Written.{runs-none}
 use Rattle.certification.specs.Survey.{step, raised}
 use Rattle.btree.proofs.NextChild.{next-child}
-use Rattle.btree.proofs.Runs.{leaf-run}
-use Rattle.certification.proofs.Surveys.{byte-inner, left, left-step, left-last, left-done, anyLeft, raised-not, leaf-flag, flag-step, flag-done}
+use Rattle.certification.proofs.Surveys.{left, left-step, left-last, left-done, raised-not, flag-step, flag-done}
 use borrow.Author.Needs.{needs}
 use borrow.Fn.Kinds.{In, Out}
 use borrow.Fn.PlainCycle.{Measures, is, falls, and}
@@ -57,15 +56,15 @@ node-below t = and 1 node-kinds.ps (falls 1 node-kinds.ps _<_ μ-node t) certify
 -- ---- certify_inner
 
 abbrev Inv-loop : inner-lts.InvT-loop
-Inv-loop archive layout pos known hollow₀ order₀ i₀ hollow order i =
+Inv-loop archive layout pos some last ascends known hollow₀ order₀ i₀ hollow order i =
     let L = layoutOf layout in
-    let list = left L archive (listAt L archive (nested standard)) (pos .0) (layout .entries) in
-    let any = anyLeft L archive (hollowAt L archive (nested standard)) (pos .0) (layout .entries) in
+    let list = left [] (listChildren L archive (listAt L archive (nested standard)) (pos .0)) (layout .entries) in
+    let any = left false (anyChildren L archive (hollowAt L archive (nested standard)) (pos .0)) (layout .entries) in
     (i ≤ layout .entries + 1) × (pos .0 + leafSize L ≤ length archive) × (runs step (list i) order ≡ runs step (list i₀) order₀)
     × (raised hollow (any i) ≡ raised hollow₀ (any i₀))
 
 abbrev μ-loop : inner-lts.MeasureT-loop
-μ-loop archive layout pos known hollow₀ order₀ i₀ hollow order i = layout .entries + 1 - i
+μ-loop archive layout pos some last ascends known hollow₀ order₀ i₀ hollow order i = layout .entries + 1 - i
 
 abbrev inner-calls : ℕ → inner-lts.Claims
 inner-calls t =
@@ -84,10 +83,6 @@ start t head = search
 abbrev L : (t : ℕ) → In-inner t inner-lts.At-loop → Layout
 L t head = layoutOf (start t head .args .layout)
 
--- The node's first byte is not a leaf's.
-not-leaf : (t : ℕ) (head : In-inner t inner-lts.At-loop) → let a = start t head .args in getD (a .archive .now) (a .pos .0) 0 ≡ 0 → ⊥
-not-leaf t head = byte-inner (L t head) _ _ (start t head .pre .1 .2)
-
 -- Where the arms of the child's test meet: the nodes from the child on are passed, or there is no child.
 module _ (t : ℕ) (c : In-inner t inner-lts.At-match-came) where
   abbrev head : In-inner t inner-lts.At-loop
@@ -95,39 +90,14 @@ module _ (t : ℕ) (c : In-inner t inner-lts.At-match-came) where
 
   joined : let a = start t head .args in
       let next = childAt (L t head) (a .archive .now) (child (L t head) (a .pos .0) (head .loop .i)) in
-      c .match .order ≡ runs step (onChild [] (listAt (L t head) (a .archive .now) (nested standard)) next) (head .loop .order)
-  joined =
-      next-child (L t head) _ (runs step) [] (runs-none step) _ _ _ _ _ _ (c .before .child-at .ensures)
-      (⊎-map (λ w. (_, w .1 .given .1, w .6 ∙ w .3 .ensures .0)) (λ w. (w .1 .given .1, w .3)) (c .match .came))
-
-  flagged : let a = start t head .args in
-      let next = childAt (L t head) (a .archive .now) (child (L t head) (a .pos .0) (head .loop .i)) in
-      c .match .hollow ≡ raised (head .loop .hollow) (onChild false (hollowAt (L t head) (a .archive .now) (nested standard)) next)
-  flagged =
-      next-child (L t head) _ (λ (b : Bool) (h : ℕ). raised h b) false (λ h. sym (raised-not h)) _ _ _ _ _ _ (c .before .child-at .ensures)
-      (⊎-map (λ w. (_, w .1 .given .1, w .5 ∙ w .3 .ensures .1)) (λ w. (w .1 .given .1, w .2)) (c .match .came))
-
--- Where the arms of the slot's test meet: one slot more, or none is left.
-passed : (t : ℕ) (c : In-inner t inner-lts.Joined2) →
-    let head = head t (c .before .before) in
-    let a = start t head .args in
-    let list = left (L t head) (a .archive .now) (listAt (L t head) (a .archive .now) (nested standard)) (a .pos .0) (a .layout .entries) in
-    runs step (list (head .loop .i + 1)) (c .if2 .order) ≡ runs step (list 0) (a .start)
-passed t c =
-    let met = c .before .before in
-    let sum = head t met .loop .inv .2 in
-    ⊎-elim
-    (λ w. rw (w .2) (left-step _ _ _ _ _ _ _ _ _ (joined t met) sum (w .0 .taken) _ (w .1 .ensures)))
-    (λ w. rw (w .1) (left-last _ _ _ _ _ _ _ _ _ (joined t met) sum (omega arith) (w .0 .left)))
-    (c .if2 .came)
-
-inner-loop-holds : (t : ℕ) → In-inner t inner-lts.Need-loop-holds
-inner-loop-holds t c = search (node-room, needs)
-
-inner-child-at-requires : (t : ℕ) → In-inner t inner-lts.Need-child-at-requires
-inner-child-at-requires t c κs =
-    let head : In-inner t inner-lts.At-loop = search in
-    (search needs, as-inner _ standard _ (start t head .pre .1 .1) (not-leaf t head), omega arith)
+      (c .match .order ≡ runs step (onChild [] (listAt (L t head) (a .archive .now) (nested standard)) next) (head .loop .order))
+      × (c .match .hollow ≡ raised (head .loop .hollow) (onChild false (hollowAt (L t head) (a .archive .now) (nested standard)) next))
+  joined = (
+    next-child (L t head) _ (runs step) [] (runs-none step) _ _ _ _ _ _ (c .before .child-at .ensures)
+        (⊎-map (λ w. (_, w .1 .given .1, w .6 ∙ w .3 .ensures .0)) (λ w. (w .1 .given .1, w .3)) (c .match .came)),
+    next-child (L t head) _ (λ (b : Bool) (h : ℕ). raised h b) false (λ h. sym (raised-not h)) _ _ _ _ _ _ (c .before .child-at .ensures)
+        (⊎-map (λ w. (_, w .1 .given .1, w .5 ∙ w .3 .ensures .1)) (λ w. (w .1 .given .1, w .2)) (c .match .came)),
+  )
 
 inner-certify-node-requires : (t : ℕ) → In-inner t inner-lts.Need-certify-node-requires
 inner-certify-node-requires t c κs =
@@ -135,23 +105,28 @@ inner-certify-node-requires t c κs =
     let read : In-inner t inner-lts.After-child-at = search in
     let head : In-inner t inner-lts.At-loop = search in
     let falls =
-    child-falls (L t head) standard _ _ refl (start t head .pre .1 .1) (not-leaf t head) (omega arith) (read .child-at .ensures) (there .q .given .1) in
+    child-falls (L t head) standard _ _ refl (start t head .pre .1 .1) (start t head .pre .1 .2) (omega arith) (read .child-at .ensures) (there .q .given .1) in
     (omega (arith, falls .0), (start t head .pre .1 .0, falls .1))
 
+-- Where the arms of the slot's test have met: one slot more, or none is left.
 inner-loop-again : (t : ℕ) → In-inner t inner-lts.Need-loop-again
 inner-loop-again t c =
     let met = c .before .before in
     let head = head t met in
-    let l : head .loop .i ≤ start t head .args .layout .entries = omega arith in
-    (omega arith, search needs, passed t c, search (flag-step, l, flagged t met))
-
-inner-returns : (t : ℕ) → In-inner t inner-lts.Need-returns
-inner-returns t c = let n = not-leaf t (c .before .before) in (search (left-done, n), search (flag-done, n))
+    let l : head .loop .i ≤ start t head .args .layout .entries = omega arith in (
+      omega arith,
+      search needs,
+      ⊎-elim
+          (λ w. rw (w .2) (left-step _ _ _ _ _ _ _ _ _ (joined t met .0) (head .loop .inv .2) (w .0 .taken) _ (w .1 .ensures)))
+          (λ w. rw (w .1) (left-last _ _ _ _ _ _ _ _ _ (joined t met .0) (head .loop .inv .2) l (w .0 .left)))
+          (c .if2 .came),
+      search (flag-step, l, joined t met .1),
+    )
 
 -- ---- certify_node
 
 abbrev node-calls : ℕ → node-lts.Claims
-node-calls t = (note-hollow.Asked, note-hollow.Learnt, note-leaf.Asked, note-leaf.Learnt, inner-below t, certify-inner.Post)
+node-calls t = (note-leaf.Asked, note-leaf.Learnt, inner-below t, certify-inner.Post)
 
 -- A place or a need of `certify_node`.
 abbrev In-node : ℕ → (node-lts.Claims → In 1 node-kinds.ps → Out 1 node-kinds.ps node-kinds.r → Type 0) → Type 0
@@ -160,26 +135,14 @@ In-node t place = place (node-calls t) (node-at t) certify-node.Post
 node-shared-slice-read-if1 : (t : ℕ) → In-node t node-lts.Need-shared-slice-read-if1
 node-shared-slice-read-if1 t c = let start : In-node t node-lts.Start = search in omega (arith, node-room _ _ _ (start .pre .1 .1))
 
-node-note-leaf-requires : (t : ℕ) → In-node t node-lts.Need-note-leaf-requires
-node-note-leaf-requires t c κs = (search needs, search as-leaf)
-
-node-returns : (t : ℕ) → In-node t node-lts.Need-returns
-node-returns t c = (search leaf-run, search leaf-flag)
-
-node-certify-inner-requires : (t : ℕ) → In-node t node-lts.Need-certify-inner-requires
-node-certify-inner-requires t c κs =
-    let start : In-node t node-lts.Start = search in
-    let v = start .pre .1 .1 in
-    (omega arith, (start .pre .1 .0, v, as-inner _ standard _ v (c .if1 .left) .is))
-
 pub +certify-inner+certify-node-spec : {M : Type 1} → statement M
 +certify-inner+certify-node-spec =
     close μ-inner μ-node (λ t. inner-lts.spec (inner-calls t) (inner-at t) certify-inner.Post
     Inv-loop
     μ-loop
-    (λ c κs. search needs)
-    (inner-loop-holds t)
-    (inner-child-at-requires t)
+    (λ c κs. (search needs, search as-inner))
+    (λ c. search (node-room, needs))
+    (λ c κs. (search needs, search as-inner, omega arith))
     (λ c. search needs)
     (inner-certify-node-requires t)
     (λ c. search needs)
@@ -187,11 +150,10 @@ pub +certify-inner+certify-node-spec : {M : Type 1} → statement M
     (λ c. search needs)
     (λ c. search needs)
     (inner-loop-again t)
-    (inner-returns t))
+    (λ c. (search left-done, search flag-done)))
     λ t. node-lts.spec (node-calls t) (node-at t) certify-node.Post
     (node-shared-slice-read-if1 t)
     (λ c κs. search needs)
-    (node-note-leaf-requires t)
-    (node-returns t)
-    (node-certify-inner-requires t)
+    (λ c. search needs)
+    (λ c κs. (omega arith, search needs))
     (λ c. search needs)

@@ -6,31 +6,26 @@ use borrow.Author.Needs.{needs}
 use Rattle.format.specs.Layout.{layoutOf}
 use Rattle.format.specs.Entries.{slots}
 use Rattle.format.specs.Written.{runs}
+use Rattle.format.specs.Laws.Read.Node.{as-leaf}
 use Rattle.certification.specs.Survey.{step}
-use Rattle.btree.proofs.Runs.{leaf-step, leaf-done}
+use Rattle.btree.proofs.Runs.{leaf-step, leaf-done, leaf-run}
+use Rattle.certification.proofs.Surveys.{leaf-empty, leaf-filled}
 use Rattle.certification.proofs.note_leaf.Statement.{statement}
 use Rattle.certification.proofs.note_leaf.Tie as tie
 
 abbrev Inv-loop : tie.InvT-loop
-Inv-loop archive layout pos n order₀ i₀ order i =
+Inv-loop archive layout pos known n order₀ i₀ order i =
     let left = slots (layoutOf layout) archive (pos .0) in
     (i ≤ n) × (runs step (left (n - i) i) order ≡ runs step (left (n - i₀) i₀) order₀)
 
 abbrev μ-loop : tie.MeasureT-loop
-μ-loop archive layout pos n order₀ i₀ order i = n - i
+μ-loop archive layout pos known n order₀ i₀ order i = n - i
 
 note-slot-requires : tie.Need-note-slot-requires Inv-loop μ-loop
 note-slot-requires c κs =
     let start : tie.Start Inv-loop μ-loop = search in
-    let room = start .pre .1 .room in
-    let few = start .pre .1 .count in
+    let leaf = as-leaf _ _ _ (start .pre .1) (start .pre .2) in
     (omega arith, omega arith)
-
-loop-again : tie.Need-loop-again Inv-loop μ-loop
-loop-again c = (search needs, search leaf-step)
-
-returns : tie.Need-returns Inv-loop μ-loop
-returns c = search leaf-done
 
 pub note-leaf-spec : {M : Type 1} → statement M
 note-leaf-spec =
@@ -38,10 +33,11 @@ note-leaf-spec =
     (tie.spec
     Inv-loop
     μ-loop
-    (λ c κs. search needs)
+    (λ c κs. (search needs, search as-leaf))
     (search needs)
     note-slot-requires
     (search needs)
     (search needs)
-    loop-again
-    returns)
+    (λ c. (search needs, search leaf-step))
+    (λ c. (search (leaf-run, leaf-done), search leaf-empty))
+    (λ c. (search (leaf-run, leaf-done), search leaf-filled)))
