@@ -13,7 +13,7 @@ ghost use Rattle.format.specs.Layout.{layoutOf, layout32, standard, pointer, he
 ghost use Rattle.format.specs.Refusal.{gives};
 ghost use Rattle.format.specs.Check.{counted};
 ghost use Rattle.format.specs.Certify.{certify};
-ghost use Rattle.ordered.specs.Order.{keyIn, Rise, LeafKeys, ChildKeys, KeysBelow, NextKey};
+ghost use Rattle.ordered.specs.Order.{Rise, LeafKeys, ChildKeys, KeysBelow, NextKey};
 
 // 2^32: the bits of an offset that leads back are less than this by the distance.
 const WRAP: usize = 0x1_0000_0000;
@@ -36,35 +36,22 @@ enum Next {
     No,
 }
 
-// Whether the key after key i is among the first n, and not above key i.
-fn falls(archive: &[u8], p: usize, n: usize, i: usize) -> bool
-    requires { ⌜ (p + headSize layout32 ≤ length (now archive)) × (i < 4) × (n ≤ 5) ⌝ }
-    ensures { λ r. ⌜ (r ≡ false → i + 1 < n → keyIn (now (archive .entry)) p i < keyIn (now (archive .entry)) p (i + 1)) ⌝ }
-{
-    i + 1 < n
-        && u64_at(archive, p + Layout::KEYS + 8 * (i + 1))
-            <= u64_at(archive, p + Layout::KEYS + 8 * i)
-}
-
-// Whether there is a key before, and key 0 is not above it.
-fn first_falls(archive: &[u8], p: usize, some: usize, last: u64) -> bool
-    requires { ⌜ p + headSize layout32 ≤ length (now archive) ⌝ }
-    ensures { λ r. ⌜ (r ≡ false → some ≡ 1 → last < keyIn (now (archive .entry)) p 0) ⌝ }
-{
-    some == 1 && u64_at(archive, p + Layout::KEYS) <= last
-}
-
 // Whether the first n keys of a node ascend, from above `last` on where `some` is 1. The loop's length is known, so that it is unrolled.
 fn rises(archive: &[u8], p: usize, n: usize, some: usize, last: u64) -> bool
     requires { ⌜ (p + headSize layout32 ≤ length (now archive)) × (n ≤ 5) ⌝ }
     ensures { λ r. ⌜ (r ≡ true → Rise (now (archive .entry)) p n some last) ⌝ }
 {
-    if first_falls(archive, p, some, last) {
-        return false;
+    if some == 1 {
+        if u64_at(archive, p + Layout::KEYS) <= last {
+            return false;
+        }
     }
     for i in 0..4 {
-        if falls(archive, p, n, i) {
-            return false;
+        if i + 1 < n {
+            let key = u64_at(archive, p + Layout::KEYS + 8 * i);
+            if u64_at(archive, p + Layout::KEYS + 8 * (i + 1)) <= key {
+                return false;
+            }
         }
     }
     true

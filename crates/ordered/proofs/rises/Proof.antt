@@ -1,8 +1,10 @@
 -- `ordered::rises` meets its contract. Assumes nothing.
-use mathlib.Core.Path.{_≡_, refl}
+use mathlib.Core.Path.{_≡_, refl, ap, _∙_}
+use mathlib.Core.Logic.{⊎-elim}
 use Prim.Native.Nat.{ℕ, _+_, _-_, _<_, _≤_}
 use native.Mathlib.Omega.{arith}
 use borrow.Author.Needs.{needs}
+use Rattle.format.specs.Bytes.{leAt}
 use Rattle.format.specs.Laws.Check.Reach.{true≢false}
 use Rattle.ordered.specs.Order.{keyIn}
 use Rattle.ordered.proofs.Order.{each-more}
@@ -17,10 +19,27 @@ Inv-loop archive p n some last i₀ i =
 abbrev μ-loop : tie.MeasureT-loop
 μ-loop archive p n some last i₀ i = 4 - i
 
+loop-holds : tie.Need-loop-holds Inv-loop μ-loop
+loop-holds c =
+    let start : tie.Start Inv-loop μ-loop = search in
+    let s = start .args .archive .now in
+    let p = start .args .p in (
+      omega arith,
+      ⊎-elim
+          (λ w. let key : w .1 .result ≡ keyIn s p 0 = w .1 .ensures ∙ ap (leAt 8 s) (omega arith) in λ l. omega (arith, key))
+          (λ w. λ l. absurd (w .left l))
+          (c .if1 .came),
+      λ j l. absurd (omega arith),
+    )
+
 loop-again : tie.Need-loop-again Inv-loop μ-loop
 loop-again c =
     let head : tie.At-loop Inv-loop μ-loop = search in
-    (omega arith, head .loop .inv .1, each-more _ _ _ _ (head .loop .inv .2) (c .before .falls .ensures (c .if2 .left)))
+    let inv = head .loop .inv in (
+      omega arith,
+      inv .1,
+      each-more _ _ _ _ (inv .2) (⊎-elim (λ w. λ l. omega (arith, w .1 .ensures, w .2 .ensures)) (λ w. λ l. absurd (omega arith)) (c .if3 .came)),
+    )
 
 pub rises-spec : {M : Type 1} → statement M
 rises-spec =
@@ -29,8 +48,18 @@ rises-spec =
     Inv-loop
     μ-loop
     (search needs)
+    (search needs)
     (λ c. λ h. absurd (true≢false h refl))
-    (λ c. (omega arith, c .before .first-falls .ensures (c .if1 .left), λ j l. absurd (omega arith)))
+    loop-holds
+    (search needs)
+    (search needs)
+    (search needs)
+    (search needs)
+    (search needs)
+    (search needs)
+    (search needs)
+    (search needs)
+    (search needs)
     (search needs)
     (λ c. λ h. absurd (true≢false h refl))
     (search needs)
