@@ -10,8 +10,9 @@ use format::Layout;
 use format::Position;
 ghost use mathlib.Core.Path.{_≡_};
 ghost use Prim.Native.Nat.{_≤_};
+ghost use lib.ListN.{getD};
 ghost use Rattle.format.specs.Layout.{layoutOf, standard, nested};
-ghost use Rattle.format.specs.Node.{inner, kind, leafCount};
+ghost use Rattle.format.specs.Node.{leafCount};
 ghost use Rattle.format.specs.Entries.{slots, listAt};
 ghost use Rattle.format.specs.Readable.{Node, LeafNode};
 ghost use Rattle.format.specs.Written.{out, fill, walked};
@@ -57,7 +58,7 @@ fn visit_raw(
     values: &mut [u64],
     start: usize,
 ) -> usize
-    requires { ⌜ (layout .entries ≤ 15) × Node (layoutOf layout) standard (now archive) (pos .0) × (kind (layoutOf layout) (now archive) (pos .0) ≡ inner) ⌝ }
+    requires { ⌜ (layout .entries ≤ 15) × Node (layoutOf layout) standard (now archive) (pos .0) × (getD (now archive) (pos .0) 0 ≡ 0 → ⊥) ⌝ }
     ensures { λ r. ⌜ out (now (keys .exit)) (now (values .exit)) r
         ≡ fill (listAt (layoutOf layout) (now (archive .entry)) (nested standard) (pos .0)) (out (now (keys .entry)) (now (values .entry)) start) ⌝ }
 {

@@ -18,7 +18,8 @@ use Rattle.format.specs.Laws.Read.Node.{as-inner, node-room, child-falls}
 use Rattle.format.specs.Laws.Read.Written.{runs-none}
 use Rattle.certification.specs.Survey.{step, raised}
 use Rattle.btree.proofs.NextChild.{next-child}
-use Rattle.certification.proofs.Surveys.{left, left-step, left-last, left-done, raised-not, flag-step, flag-done}
+use Rattle.btree.proofs.Runs.{left, left-step, left-last, left-done}
+use Rattle.certification.proofs.Surveys.{raised-not, flag-step, flag-done}
 use borrow.Author.Needs.{needs}
 use borrow.Fn.Kinds.{In, Out}
 use borrow.Fn.PlainCycle.{Measures, is, falls, and}
@@ -117,8 +118,8 @@ inner-loop-again t c =
       omega arith,
       search needs,
       ⊎-elim
-          (λ w. rw (w .2) (left-step _ _ _ _ _ _ _ _ _ (joined t met .0) (head .loop .inv .2) (w .0 .taken) _ (w .1 .ensures)))
-          (λ w. rw (w .1) (left-last _ _ _ _ _ _ _ _ _ (joined t met .0) (head .loop .inv .2) l (w .0 .left)))
+          (λ w. rw (w .2) (left-step _ _ step _ _ _ _ _ _ _ (joined t met .0) (head .loop .inv .2) (w .0 .taken) _ (w .1 .ensures)))
+          (λ w. rw (w .1) (left-last _ _ step _ _ _ _ _ _ _ (joined t met .0) (head .loop .inv .2) l (w .0 .left)))
           (c .if2 .came),
       search (flag-step, l, joined t met .1),
     )

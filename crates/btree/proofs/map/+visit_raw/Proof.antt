@@ -7,7 +7,7 @@ use native.Mathlib.Omega.{arith}
 use lib.ListN.{length}
 use Rattle.format.specs.Layout.{layoutOf, standard, nested}
 use Rattle.format.specs.Node.{child}
-use Rattle.format.specs.Entries.{listAt}
+use Rattle.format.specs.Entries.{listChildren, listAt}
 use Rattle.format.specs.Readable.{childAt, Node}
 use Rattle.format.specs.Written.{out, put, fill}
 use Rattle.format.specs.Laws.Read.Children.{onChild}
@@ -15,7 +15,7 @@ use Rattle.format.specs.Laws.Read.Node.{as-leaf, as-inner, node-room, child-fal
 use Rattle.format.specs.Laws.Read.Written.{runs-none}
 use Rattle.btree.proofs.NextChild.{next-child}
 use Rattle.btree.proofs.Fills.{out-same, full-kept}
-use Rattle.btree.proofs.Runs.{byte-inner, left, left-step, left-last, left-done, leaf-run}
+use Rattle.btree.proofs.Runs.{left, left-step, left-last, left-done, leaf-run}
 use borrow.Author.Needs.{needs}
 use borrow.Author.Tests.{leb-true}
 use borrow.Fn.Kinds.{In, Out}
@@ -41,7 +41,7 @@ below t = and 3 kinds.ps (falls 3 kinds.ps _<_ μ t) visit-raw.Pre
 abbrev Inv-loop : lts.InvT-loop
 Inv-loop archive layout pos keys₀ values₀ start at₀ i₀ keys values at i =
     let L = layoutOf layout in
-    let rest = left L archive (listAt L archive (nested standard)) (pos .0) (layout .entries) in
+    let rest = left [] (listChildren L archive (listAt L archive (nested standard)) (pos .0)) (layout .entries) in
     (i ≤ layout .entries + 1) × (length keys ≡ length keys₀) × (length values ≡ length values₀)
     × (fill (rest i) (out keys values at) ≡ fill (rest i₀) (out keys₀ values₀ at₀))
 
@@ -69,7 +69,7 @@ lower : (t : ℕ) (c : Of t lts.After-q) → let q = c .q .given .0 .0 .0 in
 lower t c =
     let read = c .before .before in
     let pre = start t read .pre in
-    child-falls _ standard _ _ (pre .0) (pre .1 .1) (byte-inner _ _ _ (pre .1 .2)) (omega arith) (read .child-at .ensures) (c .q .given .1)
+    child-falls _ standard _ _ (pre .0) (pre .1 .1) (pre .1 .2) (omega arith) (read .child-at .ensures) (c .q .given .1)
 
 -- Where the arms of the child's test meet: the child's entries are written, or there is no child.
 module _ (t : ℕ) (c : Of t lts.At-match-came) where
@@ -111,7 +111,7 @@ module _ (t : ℕ) (c : Of t lts.Joined5) where
   passed : let h = head t (met .before) in
       let a = start t (met .before) .args in
       let L = layoutOf (a .layout) in
-      let rest = left L (a .archive .now) (listAt L (a .archive .now) (nested standard)) (a .pos .0) (a .layout .entries) in
+      let rest = left [] (listChildren L (a .archive .now) (listAt L (a .archive .now) (nested standard)) (a .pos .0)) (a .layout .entries) in
       fill (rest (h .loop .i + 1)) (out (c .if5 .keys) (c .if5 .values) (c .if5 .at)) ≡ fill (rest 0) (out (a .keys .now) (a .values .now) (a .start))
   passed =
       let sum = head t (met .before) .loop .inv .3 in
@@ -131,7 +131,7 @@ child-at-requires : (t : ℕ) → Of t lts.Need-child-at-requires
 child-at-requires t c κs =
     let start : Of t lts.Start = search in
     let pre = start .pre .1 in
-    (pre .0, as-inner _ standard _ (pre .1) (byte-inner _ _ _ (pre .2)), omega arith)
+    (pre .0, as-inner _ standard _ (pre .1) (pre .2), omega arith)
 
 shared-slice-read-if4 : (t : ℕ) → Of t lts.Need-shared-slice-read-if4
 shared-slice-read-if4 t c = let there : Of t lts.After-q = search in omega (arith, node-room _ _ _ (lower t there .1))
@@ -147,7 +147,7 @@ visit-raw-requires t c κs =
     let there : Of t lts.After-q = search in
     let inner : Of t lts.Else4 = search in
     let child = lower t there in
-    (child .0, (start t (there .before .before) .pre .1 .0, child .1, as-inner _ standard _ (child .1) (inner .if4 .left) .is))
+    (child .0, (start t (there .before .before) .pre .1 .0, child .1, inner .if4 .left))
 
 visit-key-value-raw-requires : (t : ℕ) → Of t lts.Need-visit-key-value-raw-requires
 visit-key-value-raw-requires t c κs =
