@@ -38,9 +38,13 @@ module _ (c : tie.Else6 Inv-loop μ-loop) (d : ℕ) (some : 0 < d) where
   passed =
       let leaf : tie.Else5 Inv-loop μ-loop = search in
       let even : tie.Else4 Inv-loop μ-loop = search in
+      let room : tie.Else3 Inv-loop μ-loop = search in
+      let back : tie.Else2 Inv-loop μ-loop = search in
+      let turn : tie.In-loop Inv-loop μ-loop = search in
       let small = read .u32-at .ok in
-      leaf-child layout32 _ _ _ _ (leads32 _ _ _ (read .u32-at .ensures) (omega arith) (omega arith) (omega arith)) (omega arith) (even .if4 .left) d some
-      (leaf .if5 .left) refl (omega arith) (c .before .u32-at2 .ensures) (omega arith)
+      leaf-child layout32 _ _ _ _
+      (leads32 _ _ _ (read .u32-at .ensures) (omega (arith, small)) (omega (arith, start .pre, turn .loop-test .taken)) (omega (arith, back .if2 .left)))
+      (omega (arith, back .if2 .left)) (even .if4 .left) d some (leaf .if5 .left) refl (room .if3 .left) (c .before .u32-at2 .ensures) (c .if6 .left)
 
   next : let a = start .args in
       SoFar layout32 (a .archive .now) d (a .at) (a .start) (head .loop .i + 1) (p + 96) (head .loop .total + c .before .u32-at2 .result)
@@ -85,7 +89,7 @@ quick-leaves-spec =
     (search needs)
     (search needs)
     (search needs)
-    (search needs)
+    (λ c. let turn : tie.In-loop Inv-loop μ-loop = search in omega (arith, turn .loop-test .taken))
     loop-again
     (search needs)
     (search needs)
@@ -94,15 +98,15 @@ quick-leaves-spec =
     (search needs)
     (λ c. λ d some h. absurd (omega arith))
     (λ c. λ d some h. absurd (omega arith))
-    (search needs)
+    (λ c. let room : tie.Else3 Inv-loop μ-loop = search in let begun : tie.Start Inv-loop μ-loop = search in omega (arith, room .if3 .left, begun .pre))
     (λ c. λ d some h. absurd (omega arith))
-    (search needs)
-    (search needs)
+    (λ c. let room : tie.Else3 Inv-loop μ-loop = search in let begun : tie.Start Inv-loop μ-loop = search in omega (arith, room .if3 .left, begun .pre))
+    (λ c κs. let room : tie.Else3 Inv-loop μ-loop = search in let begun : tie.Start Inv-loop μ-loop = search in omega (arith, room .if3 .left, begun .pre))
     (search needs)
     (λ c. λ d some h. absurd (omega arith))
     add-total
     (search needs)
     (search needs)
-    (search needs)
+    (λ c. let turn : tie.In-loop Inv-loop μ-loop = search in omega (arith, turn .loop-test .taken))
     loop-again-2
     returns-6)

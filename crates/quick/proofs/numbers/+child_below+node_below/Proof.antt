@@ -1,6 +1,6 @@
 -- `quick::numbers::child_below` and `quick::numbers::node_below`, which call each other, meet their contracts. Assumes nothing.
 use mathlib.Core.Path.{_≡_, sym, ap, _∙_}
-use Prim.Native.Nat.{ℕ, _+_, _-_, _*_, _<_, _≤_}
+use Prim.Native.Nat.{ℕ, _+_, _-_, _*_, _^_, _<_, _≤_}
 use native.Mathlib.Omega.{arith}
 use lib.ListN.{length}
 use borrow.Author.Needs.{needs}
@@ -66,13 +66,25 @@ module _ (t : ℕ) (c : In-child t child-lts.Else3) where
   at = entry .args .field - 1 - (entry .args .ones - read .number-at .result)
 
   low : entry .args .start ≤ at
-  low = omega arith
+  low = omega (arith, c .if3 .left)
+
+  -- What is added to the place does not wrap.
+  small : (at < 2 ^ 63) × (entry .args .e ≤ 15)
+  small = omega arith
 
   ends : at + (8 + 16 * entry .args .e) + 8 ≡ at + leafSize L
   ends = omega (arith, leaf-is L)
 
   to : LeadsTo L (entry .args .archive .now) (entry .args .field) at
-  to = leads-by L _ _ _ _ (read .number-at .ensures .0) (read .number-at .ensures .1) (entry .pre .1 .0 .full) (omega arith) (omega arith)
+  to =
+      leads-by L _ _ _ _ (read .number-at .ensures .0) (read .number-at .ensures .1) (entry .pre .1 .0 .full) (c .before .if2 .left)
+      (omega (arith, c .if3 .left))
+
+child-node-below-requires : (t : ℕ) → In-child t child-lts.Need-node-below-requires
+child-node-below-requires t c κs =
+    let sized : In-child t child-lts.After-inner-of = search in
+    let pre = entry t (search) .pre in
+    (omega (arith, pre), (pre .1 .0, low t (search), omega (arith, c .if9 .left, sized .inner-of .ensures .0, pre .1 .2, pre .1 .3)))
 
 child-returns : (t : ℕ) → In-child t child-lts.Need-returns
 child-returns t c =
@@ -85,8 +97,8 @@ child-returns-7 t c =
     let leaf : In-child t child-lts.Then6 = search in
     let even : In-child t child-lts.Else5 = search in
     let room : In-child t child-lts.Else4 = search in
-    leaf-child _ _ _ _ _ (to t back) (low t back) (even .if5 .left) (entry t back .args .depth) (omega arith) (leaf .if6 .taken) (ends t back)
-    (room .if4 .left) (c .before .number-at2 .ensures .0) (omega arith)
+    leaf-child _ _ _ _ _ (to t back) (low t back) (even .if5 .left) (entry t back .args .depth) (entry t back .pre .1 .4) (leaf .if6 .taken)
+    (ends t back) (room .if4 .left) (c .before .number-at2 .ensures .0) (c .if7 .left)
 
 child-returns-11 : (t : ℕ) → In-child t child-lts.Need-returns-11
 child-returns-11 t c =
@@ -96,7 +108,7 @@ child-returns-11 t c =
     let room : In-child t child-lts.Else9 = search in
     let sized : In-child t child-lts.After-inner-of = search in
     inner-child _ _ _ _ _ (to t back) (low t back) (even .if5 .left) (inner .if8 .left) (ap (λ (n : ℕ). at t back + n) (sized .inner-of .ensures .0))
-    (room .if9 .left) (entry t back .args .depth) (entry t back .pre .1 .4) (c .before .node-below .ensures (omega arith))
+    (room .if9 .left) (entry t back .args .depth) (entry t back .pre .1 .4) (c .before .node-below .ensures (omega (arith, c .if10 .left)))
 
 -- ---- node_below
 
@@ -167,28 +179,28 @@ pub +child-below+node-below-spec : {M : Type 1} → statement M
     (λ c. search needs)
     (λ c. search needs)
     (λ c. search needs)
+    (λ c. omega (arith, c .if3 .left))
+    (λ c. omega (arith, c .if3 .left))
+    (λ c. search needs)
+    (λ c. search needs)
+    (λ c. omega (arith, small t c))
+    (λ c. omega (arith, small t c))
     (λ c. search needs)
     (λ c. search needs)
     (λ c. search needs)
-    (λ c. search needs)
-    (λ c. search needs)
-    (λ c. search needs)
-    (λ c. search needs)
-    (λ c. search needs)
-    (λ c. search needs)
-    (λ c κs. search needs)
+    (λ c κs. let room : In-child t child-lts.Else4 = search in (search needs, omega (arith, room .if4 .left, entry t (search) .pre .1)))
     (λ c. search needs)
     (λ c. search needs)
     (child-returns-7 t)
     (λ c κs. search needs)
     (λ c. search needs)
     (λ c. search needs)
+    (λ c. let sized : In-child t child-lts.After-inner-of = search in omega (arith, small t (search), sized .inner-of .ensures .1))
     (λ c. search needs)
     (λ c. search needs)
+    (child-node-below-requires t)
     (λ c. search needs)
-    (λ c κs. search needs)
-    (λ c. search needs)
-    (λ c. search needs)
+    (λ c. let sized : In-child t child-lts.After-inner-of = search in omega (arith, small t (search), sized .inner-of .ensures .1))
     (child-returns-11 t))
     λ t. node-lts.spec (node-calls t) (node-at t) node.Post
     Inv-loop

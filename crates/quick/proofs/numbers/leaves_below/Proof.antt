@@ -1,6 +1,6 @@
 -- `quick::numbers::leaves_below` meets its contract. Assumes nothing.
 use mathlib.Core.Path.{_≡_, sym, _∙_}
-use Prim.Native.Nat.{ℕ, _+_, _-_, _*_, _<_, _≤_}
+use Prim.Native.Nat.{ℕ, _+_, _-_, _*_, _^_, _<_, _≤_}
 use native.Mathlib.Omega.{arith}
 use lib.ListN.{length}
 use borrow.Author.Needs.{needs}
@@ -21,19 +21,21 @@ Inv-loop archive w e ones start at first from₀ total₀ i₀ i-end from total 
 abbrev μ-loop : tie.MeasureT-loop
 μ-loop archive w e ones start at first from₀ total₀ i₀ i-end from total i = e + 1 - i
 
--- The field of child i lies in the archive.
+-- The field of child i lies in the archive, and all these numbers are small.
 near : (c : tie.In-loop Inv-loop μ-loop)
     → let start : tie.Start Inv-loop μ-loop = search in
     let a = start .args in
-    a .at + (8 + 16 * a .e) + a .w * c .before .loop .i + a .w ≤ length (a .archive .now)
+    (a .at + (8 + 16 * a .e) + a .w * c .before .loop .i + a .w ≤ length (a .archive .now)) × (length (a .archive .now) < 2 ^ 63)
+    × (c .before .loop .i ≤ a .e) × (a .e ≤ 15)
 near c =
     let start : tie.Start Inv-loop μ-loop = search in
-    field-near _ _ _ (c .before .loop .i) _ (start .pre .0 .wide) (start .pre .2) (omega arith)
+    let held = field-near _ _ _ (c .before .loop .i) _ (start .pre .0 .wide) (start .pre .2) (omega arith) in
+    (held, omega arith, omega arith, start .pre .0 .few)
 
 less : (c : tie.In-loop Inv-loop μ-loop)
     → let start : tie.Start Inv-loop μ-loop = search in
     start .args .e + 1 - (c .before .loop .i + 1) < start .args .e + 1 - c .before .loop .i
-less c = omega arith
+less c = omega (arith, c .loop-test .taken)
 
 -- Child i's field, as the code computes it, and what is read there.
 module _ (c : tie.After-number-at Inv-loop μ-loop) where
@@ -66,13 +68,15 @@ module _ (c : tie.Else3 Inv-loop μ-loop) where
   at = field read - 1 - (start read .args .ones - read .number-at .result)
 
   low : head read .loop .from ≤ at
-  low = omega arith
+  low = omega (arith, c .if3 .left)
 
   ends : at + (8 + 16 * start read .args .e) + 8 ≡ at + leafSize (L read)
   ends = omega (arith, leaf-is (L read))
 
   to : LeadsTo (L read) (start read .args .archive .now) (field read) at
-  to = leads-by (L read) _ _ _ _ (read .number-at .ensures .0) (read .number-at .ensures .1) (start read .pre .0 .full) (omega arith) (omega arith)
+  to =
+      leads-by (L read) _ _ _ _ (read .number-at .ensures .0) (read .number-at .ensures .1) (start read .pre .0 .full) (c .before .if2 .left)
+      (omega (arith, c .if3 .left))
 
 -- Child i is absent, or a leaf in its place.
 skipped : (c : tie.Then1 Inv-loop μ-loop) (d : ℕ) → 0 < d
@@ -105,10 +109,10 @@ loop-again : tie.Need-loop-again Inv-loop μ-loop
 loop-again c = let h = skipped c 1 (omega arith) in (omega arith, h .low, h .few, skipped c)
 
 add-total : tie.Need-add-total Inv-loop μ-loop
-add-total c = let h = passed c 1 (omega arith) .few in let l = passed c 1 (omega arith) .low in omega arith
+add-total c = let h = passed c 1 (omega arith) in omega (arith, h .few, h .low, near (search))
 
 loop-again-2 : tie.Need-loop-again-2 Inv-loop μ-loop
-loop-again-2 c = let h = passed c 1 (omega arith) in (omega arith, h .low, h .few, passed c)
+loop-again-2 c = let h = passed c 1 (omega arith) in (omega (arith, near (search)), h .low, h .few, passed c)
 
 returns-7 : tie.Need-returns-7 Inv-loop μ-loop
 returns-7 c = λ d some h. all-passed _ _ _ _ _ (c .before .loop .inv .3 d some) (omega arith)
@@ -128,27 +132,27 @@ leaves-below-spec =
     (λ c. omega (arith, near c))
     (λ c κs. (search needs, omega (arith, near c)))
     (search needs)
-    (search needs)
+    (λ c. less (search))
     loop-again
     (search needs)
     (λ c. λ d some h. absurd (omega arith))
     (search needs)
     (λ c. λ d some h. absurd (omega arith))
+    (λ c. omega (arith, c .if3 .left))
+    (λ c. omega (arith, c .if3 .left))
     (search needs)
     (search needs)
-    (search needs)
-    (search needs)
-    (λ c. let turn : tie.In-loop Inv-loop μ-loop = search in omega (arith, near turn))
-    (λ c. let turn : tie.In-loop Inv-loop μ-loop = search in omega (arith, near turn))
+    (λ c. omega (arith, near (search)))
+    (λ c. omega (arith, near (search)))
     (λ c. λ d some h. absurd (omega arith))
     (λ c. λ d some h. absurd (omega arith))
-    (search needs)
+    (λ c. let room : tie.Else4 Inv-loop μ-loop = search in omega (arith, room .if4 .left, near (search)))
     (λ c. λ d some h. absurd (omega arith))
     (search needs)
     (λ c. λ d some h. absurd (omega arith))
     add-total
-    (search needs)
-    (search needs)
-    (λ c. let turn : tie.In-loop Inv-loop μ-loop = search in less turn)
+    (λ c. omega (arith, near (search)))
+    (λ c. omega (arith, near (search)))
+    (λ c. less (search))
     loop-again-2
     returns-7)

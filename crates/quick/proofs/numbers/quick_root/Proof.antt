@@ -44,8 +44,10 @@ unfolding standard
 quick-node-requires c κs =
     let asked : tie.After-is-common = search in
     let sized : tie.After-inner = search in
+    let room : tie.Else4 = search in
+    let short : tie.Else1 = search in
     let same = ap innerSize (asked .is-common .ensures (c .if7 .taken)) in
-    omega (arith, same, sized .inner .ensures .0)
+    omega (arith, same, sized .inner .ensures .0, room .if4 .left, short .if1 .left, start (search) .pre .1)
 
 returns-7 : tie.Need-returns-7
 returns-7 c =
@@ -72,7 +74,8 @@ node-below-requires : tie.Need-node-below-requires
 node-below-requires c κs =
     let inner : tie.Else6 = search in
     let sized : tie.After-inner = search in
-    (numbers inner, omega arith, omega (arith, ap innerSize (same inner), sized .inner .ensures .0))
+    let room : tie.Else4 = search in
+    (numbers inner, omega arith, omega (arith, ap innerSize (same inner), sized .inner .ensures .0, room .if4 .left, start inner .pre .1))
 
 returns-8 : tie.Need-returns-8
 returns-8 c =
@@ -98,7 +101,7 @@ quick-root-spec =
     (search needs)
     (λ c. λ h. absurd (omega arith))
     (λ c. λ h. absurd (omega arith))
-    (search needs)
+    (λ c. let back : tie.Else3 = search in let begun : tie.Start = search in omega (arith, back .if3 .left, begun .pre .1))
     (λ c. λ h. absurd (omega arith))
     (search needs)
     (search needs)
