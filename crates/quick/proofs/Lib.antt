@@ -1,2 +1,1 @@
 pub mod Passing
-mod Numbered

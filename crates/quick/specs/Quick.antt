@@ -1,14 +1,12 @@
 -- What the quick way says of the nodes that it passes. Assumes nothing: these are definitions.
-use Prim.Native.Nat.{ℕ, suc, _+_, _-_, _^_, _≤_}
+use Prim.Native.Nat.{ℕ, _+_}
 use mathlib.Core.Path.{_≡_}
 use mathlib.Core.List.{List}
-use mathlib.Core.Bool.{true, false}
-use lib.Dec.{eqb}
-use Rattle.format.specs.Layout.{Layout, Width, two, four, eight, bytes, signBits}
+use Rattle.format.specs.Layout.{Layout}
 use Rattle.format.specs.Check.{accepted, checkNode}
 use Rattle.format.specs.NodeRelation.{ChildOk, ChildrenOk, Holds}
-use Rattle.quick.specs.declared.constants.Passed.{Passed}
-use Rattle.quick.specs.declared.constants.Passed.the-variants.{Entries, No}
+use Rattle.quick.specs.declared.Passed.{Passed}
+use Rattle.quick.specs.declared.Passed.the-variants.{Entries, No}
 
 module _ (L : Layout) (s : List ℕ) where
   -- The field f in the range from start to end, where d nodes may be nested below it.
@@ -26,16 +24,3 @@ module _ (L : Layout) (s : List ℕ) where
   pub record Root (d f n : ℕ) : Type 0 where
     pub next : ℕ
     pub is : checkNode L s d f 0 f ≡ accepted n next
-
--- The layout of a width and of the entries a node as numbers.
-unfoldable pub widthFor : ℕ → Width
-widthFor w = elim (eqb w 4) [ true ↦ four | false ↦ elim (eqb w 2) [ true ↦ two | false ↦ eight ] ]
-
-abbrev pub numbered : ℕ → ℕ → Layout
-numbered w e = record { width = widthFor w; entries = e }
-
--- w is a width, e is not too many, and `ones` are the bits of the offset -1.
-pub record Numbers (w e ones : ℕ) : Type 0 where
-  pub wide : bytes (widthFor w) ≡ w
-  pub few : e ≤ 15
-  pub full : ones ≡ 2 ^ suc (signBits (widthFor w)) - 1

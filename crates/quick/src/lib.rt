@@ -1,4 +1,122 @@
-// The quick way of the check: what passes it is accepted, and of the rest nothing is known, so that the check with refusals decides. No promise of
-// another crate needs it: a reader can skip this one.
-mod constants;
-pub mod numbers;
+// The quick way of the check at the common layout, with constants. It answers a number and no refusal: what passes is accepted, and where it answers 0
+// nothing is known, so that the check with refusals decides. No promise of another crate needs it: a reader can skip this one.
+use fields::primitive::u32_at;
+use format::Common;
+use format::Layout;
+ghost use Prim.Native.Nat.{ℕ, _+_, _≤_, _<_};
+ghost use lib.ListN.{length};
+ghost use Rattle.format.specs.Layout.{layout32, standard, pointer, innerSize};
+ghost use Rattle.quick.specs.Quick.{Passes, Below};
+
+// A child's entries, and where the range starts after it.
+pub enum Passed {
+    Entries(usize, usize),
+    No,
+}
+
+// 2^32: the bits of an offset that leads back are less than this by the distance.
+const WRAP: usize = 0x1_0000_0000;
+
+// The entries of an inner node in its place and of its children, where these are leaves or absent; else 0. No call is left in it, so that its loop
+// is unrolled: most inner nodes are of this kind.
+fn quick_leaves(archive: &[u8], start: usize, at: usize) -> usize
+    requires { ⌜ (start ≤ at) × (at + innerSize layout32 ≤ length (now archive)) × (length (now archive) ≤ standard .longest) ⌝ }
+    ensures { λ r. ⌜ ((d : ℕ) → 0 < d → 0 < r → Below layout32 (now (archive .entry)) d start at r) ⌝ }
+{
+    let mut from = start;
+    let mut total = Common::ENTRIES;
+    for i in 0..Common::CHILDREN {
+        let field = at + Common::NODE + Common::POINTER * i;
+        let offset = u32_at(archive, field) as usize;
+        if offset == 1 {
+            continue;
+        }
+        let up = field + offset;
+        if up < from + WRAP {
+            return 0;
+        }
+        let p = up - WRAP;
+        if at < p + Common::LEAF {
+            return 0;
+        }
+        if p % Layout::NODE_ALIGN != 0 {
+            return 0;
+        }
+        if archive[p] != 0 {
+            return 0;
+        }
+        let count = u32_at(archive, p + Common::NODE) as usize;
+        if count > Common::ENTRIES {
+            return 0;
+        }
+        total += count;
+        from = p + Common::LEAF;
+    }
+    total
+}
+
+// The child that a field leads to, with all below it: absent, a leaf or an inner node in its place.
+fn quick_child(archive: &[u8], start: usize, end: usize, field: usize, depth: usize) -> Passed
+    requires { ⌜ (start ≤ end) × (end ≤ field) × (field + pointer layout32 ≤ length (now archive)) × (length (now archive) ≤ standard .longest)
+        × (0 < depth) ⌝ }
+    ensures { λ r. ⌜ Passes layout32 (now (archive .entry)) depth start end field r ⌝ }
+{
+    let offset = u32_at(archive, field) as usize;
+    if offset == 1 {
+        return Passed::Entries(0, start);
+    }
+    let up = field + offset;
+    if up < start + WRAP {
+        return Passed::No;
+    }
+    let p = up - WRAP;
+    if end < p + Common::LEAF {
+        return Passed::No;
+    }
+    if p % Layout::NODE_ALIGN != 0 {
+        return Passed::No;
+    }
+    if archive[p] == 0 {
+        let count = u32_at(archive, p + Common::NODE) as usize;
+        if count > Common::ENTRIES {
+            return Passed::No;
+        }
+        return Passed::Entries(count, p + Common::LEAF);
+    }
+    if archive[p] != 1 {
+        return Passed::No;
+    }
+    if end < p + Common::INNER {
+        return Passed::No;
+    }
+    let entries = quick_node(archive, start, p, depth - 1);
+    if entries == 0 {
+        return Passed::No;
+    }
+    Passed::Entries(entries, p + Common::INNER)
+}
+
+// The entries of an inner node in its place and of all below it, where `depth` nodes may be nested; else 0.
+pub fn quick_node(archive: &[u8], start: usize, at: usize, depth: usize) -> usize
+    requires { ⌜ (start ≤ at) × (at + innerSize layout32 ≤ length (now archive)) × (length (now archive) ≤ standard .longest) ⌝ }
+    ensures { λ r. ⌜ (0 < r → Below layout32 (now (archive .entry)) depth start at r) ⌝ }
+{
+    if depth == 0 {
+        return 0;
+    }
+    let leaves = quick_leaves(archive, start, at);
+    if 0 < leaves {
+        return leaves;
+    }
+    let mut from = start;
+    let mut total = Common::ENTRIES;
+    for i in 0..Common::CHILDREN {
+        let field = at + Common::NODE + Common::POINTER * i;
+        let Passed::Entries(entries, next) = quick_child(archive, from, at, field, depth) else {
+            return 0;
+        };
+        total += entries;
+        from = next;
+    }
+    total
+}

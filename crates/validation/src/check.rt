@@ -15,7 +15,7 @@ use format::Layout;
 use format::Limits;
 use format::Position;
 use format::Refusal;
-use quick::numbers::quick_root;
+use numbers::quick_root;
 ghost use mathlib.Core.Path.{_≡_};
 ghost use Prim.Native.Nat.{_+_, _-_, _^_, _<_, _≤_};
 ghost use lib.ListN.{length};

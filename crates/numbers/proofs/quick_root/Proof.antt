@@ -1,15 +1,16 @@
--- `quick::numbers::quick_root` meets its contract. Assumes nothing.
+-- `numbers::quick_root` meets its contract. Assumes nothing.
 use mathlib.Core.Path.{_≡_, sym, ap, subst, _∙_}
 use Prim.Native.Nat.{ℕ, _+_, _-_}
 use native.Mathlib.Omega.{arith}
 use borrow.Author.Needs.{needs}
 use Rattle.format.specs.Layout.{Layout, layoutOf, widthOf, standard, innerSize}
 use Rattle.format.specs.Readable.{LeadsTo}
-use Rattle.quick.specs.Quick.{Below, Root, numbered, Numbers}
+use Rattle.quick.specs.Quick.{Below, Root}
+use Rattle.numbers.specs.Numbers.{numbered, Numbers}
 use Rattle.quick.proofs.Passing.{root-passes}
-use Rattle.quick.proofs.Numbered.{numbered-is, numbers-of, leads-by}
-use Rattle.quick.proofs.numbers.quick_root.Statement.{statement}
-use Rattle.quick.proofs.numbers.quick_root.Tie as tie
+use Rattle.numbers.proofs.Numbered.{numbered-is, numbers-of, leads-by}
+use Rattle.numbers.proofs.quick_root.Statement.{statement}
+use Rattle.numbers.proofs.quick_root.Tie as tie
 
 -- The record's field leads back to an inner node in its place.
 module _ (c : tie.Else6) where

@@ -1,14 +1,14 @@
--- `quick::numbers::inner_of` meets its contract. Assumes nothing.
+-- `numbers::inner_of` meets its contract. Assumes nothing.
 use mathlib.Core.Path.{_≡_}
 use Prim.Native.Nat.{suc, _+_, _*_, _≤_}
 use native.Mathlib.Numerals.{add-one}
 use native.Mathlib.Omega.{arith}
 use borrow.Author.Needs.{needs}
 use Rattle.format.specs.Layout.{bytes}
-use Rattle.quick.specs.Quick.{widthFor}
-use Rattle.quick.proofs.Numbered.{fields-fit}
-use Rattle.quick.proofs.numbers.inner_of.Statement.{statement}
-use Rattle.quick.proofs.numbers.inner_of.Tie as tie
+use Rattle.numbers.specs.Numbers.{widthFor}
+use Rattle.numbers.proofs.Numbered.{fields-fit}
+use Rattle.numbers.proofs.inner_of.Statement.{statement}
+use Rattle.numbers.proofs.inner_of.Tie as tie
 
 fits : (c : tie.Start) → c .args .w * (c .args .e + 1) ≤ 128
 fits c = fields-fit (c .args .w) (c .args .e + 1) (c .pre .0) (omega arith)

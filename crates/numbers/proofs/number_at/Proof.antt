@@ -1,11 +1,11 @@
--- `quick::numbers::number_at` meets its contract. Assumes nothing.
+-- `numbers::number_at` meets its contract. Assumes nothing.
 use mathlib.Core.Path.{ap}
 use native.Mathlib.Omega.{arith}
 use borrow.Author.Needs.{needs}
 use Rattle.format.specs.Layout.{bytes}
-use Rattle.quick.proofs.Numbered.{for-two, for-four, for-eight}
-use Rattle.quick.proofs.numbers.number_at.Statement.{statement}
-use Rattle.quick.proofs.numbers.number_at.Tie as tie
+use Rattle.numbers.proofs.Numbered.{for-two, for-four, for-eight}
+use Rattle.numbers.proofs.number_at.Statement.{statement}
+use Rattle.numbers.proofs.number_at.Tie as tie
 
 u64-at-requires : tie.Need-u64-at-requires
 u64-at-requires c κs =

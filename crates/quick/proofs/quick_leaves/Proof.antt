@@ -1,4 +1,4 @@
--- `quick::constants::quick_leaves` meets its contract. Assumes nothing.
+-- `quick::quick_leaves` meets its contract. Assumes nothing.
 use mathlib.Core.Path.{refl, sym, _∙_}
 use Prim.Native.Nat.{ℕ, _+_, _-_, _*_, _<_, _≤_}
 use native.Mathlib.Omega.{arith}
@@ -7,8 +7,8 @@ use Rattle.format.specs.Layout.{layout32, standard}
 use Rattle.format.specs.Node.{child}
 use Rattle.format.specs.NodeRelation.{ChildOk, Holds}
 use Rattle.quick.proofs.Passing.{leads32, leaf-child, SoFar, none-passed, one-passed, absent-passed, all-passed}
-use Rattle.quick.proofs.constants.quick_leaves.Statement.{statement}
-use Rattle.quick.proofs.constants.quick_leaves.Tie as tie
+use Rattle.quick.proofs.quick_leaves.Statement.{statement}
+use Rattle.quick.proofs.quick_leaves.Tie as tie
 
 abbrev Inv-loop : tie.InvT-loop
 Inv-loop archive start at from₀ total₀ i₀ from total i =

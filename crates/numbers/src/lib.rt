@@ -1,7 +1,5 @@
 // The quick way of the check at every layout, with the width, the entries a node and the bits of the offset -1 as numbers: a struct would pass
-// through memory at each node.
-use crate::constants::Passed;
-use crate::constants::quick_node;
+// through memory at each node. As of `quick`, a reader can skip this crate.
 use fields::primitive::u16_at;
 use fields::primitive::u32_at;
 use fields::primitive::u64_at;
@@ -9,12 +7,15 @@ use fields::primitive::uint_at;
 use fields::rel_ptr::ones;
 use format::Layout;
 use format::Limits;
+use quick::Passed;
+use quick::quick_node;
 ghost use mathlib.Core.Path.{_≡_};
 ghost use Prim.Native.Nat.{ℕ, suc, _+_, _≤_, _<_, _^_};
 ghost use lib.ListN.{length};
 ghost use Rattle.format.specs.Layout.{layoutOf, bytes, signBits, pointer, innerSize};
 ghost use Rattle.format.specs.Bytes.{leAt};
-ghost use Rattle.quick.specs.Quick.{widthFor, numbered, Numbers, Passes, Below, Root};
+ghost use Rattle.quick.specs.Quick.{Passes, Below, Root};
+ghost use Rattle.numbers.specs.Numbers.{widthFor, numbered, Numbers};
 
 // A number of w bytes.
 fn number_at(s: &[u8], p: usize, w: usize) -> usize

@@ -1,4 +1,4 @@
--- `quick::constants::quick_child` and `quick::constants::quick_node`, which call each other, meet their contracts. Assumes nothing.
+-- `quick::quick_child` and `quick::quick_node`, which call each other, meet their contracts. Assumes nothing.
 use mathlib.Core.Path.{refl, sym, _∙_}
 use Prim.Native.Nat.{ℕ, _+_, _-_, _<_, _≤_}
 use native.Mathlib.Omega.{arith}
@@ -7,16 +7,16 @@ use borrow.Fn.Kinds.{In, Out}
 use borrow.Fn.PlainCycle.{Measures, is, falls, and}
 use Rattle.format.specs.Layout.{layout32, standard}
 use Rattle.quick.proofs.Passing.{leads32, absent-child, leaf-child, inner-child, SoFar, none-passed, one-passed, all-passed}
-use Rattle.quick.proofs.constants.quick_child.Reads as child
-use Rattle.quick.proofs.constants.quick_child.Kinds as child-kinds
-use Rattle.quick.proofs.constants.+quick_child+quick_node.Lts-quick_child as child-lts
-use Rattle.quick.proofs.constants.quick_node.Reads as node
-use Rattle.quick.proofs.constants.quick_node.Kinds as node-kinds
-use Rattle.quick.proofs.constants.+quick_child+quick_node.Lts-quick_node as node-lts
+use Rattle.quick.proofs.quick_child.Reads as child
+use Rattle.quick.proofs.quick_child.Kinds as child-kinds
+use Rattle.quick.proofs.+quick_child+quick_node.Lts-quick_child as child-lts
+use Rattle.quick.proofs.quick_node.Reads as node
+use Rattle.quick.proofs.quick_node.Kinds as node-kinds
+use Rattle.quick.proofs.+quick_child+quick_node.Lts-quick_node as node-lts
 use Rattle.fields.proofs.primitive.u32_at.Reads as u32-at
-use Rattle.quick.proofs.constants.quick_leaves.Reads as quick-leaves
-use Rattle.quick.proofs.constants.+quick_child+quick_node.{statement}
-use Rattle.quick.proofs.constants.+quick_child+quick_node.Tie.{close}
+use Rattle.quick.proofs.quick_leaves.Reads as quick-leaves
+use Rattle.quick.proofs.+quick_child+quick_node.{statement}
+use Rattle.quick.proofs.+quick_child+quick_node.Tie.{close}
 
 -- Twice the depth, and one more before the children are gone through.
 abbrev μ-child : Measures 1 child-kinds.ps ℕ

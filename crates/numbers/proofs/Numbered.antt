@@ -12,7 +12,7 @@ use Rattle.format.specs.Node.{child}
 use Rattle.format.specs.Readable.{LeadsTo}
 use Rattle.format.specs.Laws.Numbers.Widths.{bytes-some, bytes-few, area, reach, field-is}
 use Rattle.fields.proofs.Offsets.{leads-behind}
-use Rattle.quick.specs.Quick.{widthFor, numbered, Numbers}
+use Rattle.numbers.specs.Numbers.{widthFor, numbered, Numbers}
 
 module _ (w : ℕ) where
   pub for-four : w ≡ 4 → widthFor w ≡ four

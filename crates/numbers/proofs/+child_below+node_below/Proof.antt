@@ -1,4 +1,4 @@
--- `quick::numbers::child_below` and `quick::numbers::node_below`, which call each other, meet their contracts. Assumes nothing.
+-- `numbers::child_below` and `numbers::node_below`, which call each other, meet their contracts. Assumes nothing.
 use mathlib.Core.Path.{_≡_, sym, ap, _∙_}
 use Prim.Native.Nat.{ℕ, _+_, _-_, _*_, _^_, _<_, _≤_}
 use native.Mathlib.Omega.{arith}
@@ -8,20 +8,20 @@ use borrow.Fn.Kinds.{In, Out}
 use borrow.Fn.PlainCycle.{Measures, is, falls, and}
 use Rattle.format.specs.Layout.{Layout, leafSize}
 use Rattle.format.specs.Readable.{LeadsTo}
-use Rattle.quick.specs.Quick.{numbered}
+use Rattle.numbers.specs.Numbers.{numbered}
 use Rattle.quick.proofs.Passing.{absent-child, leaf-child, inner-child, SoFar, none-passed, one-passed, all-passed}
-use Rattle.quick.proofs.Numbered.{leaf-is, leads-by, child-is, field-near}
-use Rattle.quick.proofs.numbers.child_below.Reads as child
-use Rattle.quick.proofs.numbers.child_below.Kinds as child-kinds
-use Rattle.quick.proofs.numbers.+child_below+node_below.Lts-child_below as child-lts
-use Rattle.quick.proofs.numbers.node_below.Reads as node
-use Rattle.quick.proofs.numbers.node_below.Kinds as node-kinds
-use Rattle.quick.proofs.numbers.+child_below+node_below.Lts-node_below as node-lts
-use Rattle.quick.proofs.numbers.number_at.Reads as number-at
-use Rattle.quick.proofs.numbers.inner_of.Reads as inner-of
-use Rattle.quick.proofs.numbers.leaves_below.Reads as leaves-below
-use Rattle.quick.proofs.numbers.+child_below+node_below.{statement}
-use Rattle.quick.proofs.numbers.+child_below+node_below.Tie.{close}
+use Rattle.numbers.proofs.Numbered.{leaf-is, leads-by, child-is, field-near}
+use Rattle.numbers.proofs.child_below.Reads as child
+use Rattle.numbers.proofs.child_below.Kinds as child-kinds
+use Rattle.numbers.proofs.+child_below+node_below.Lts-child_below as child-lts
+use Rattle.numbers.proofs.node_below.Reads as node
+use Rattle.numbers.proofs.node_below.Kinds as node-kinds
+use Rattle.numbers.proofs.+child_below+node_below.Lts-node_below as node-lts
+use Rattle.numbers.proofs.number_at.Reads as number-at
+use Rattle.numbers.proofs.inner_of.Reads as inner-of
+use Rattle.numbers.proofs.leaves_below.Reads as leaves-below
+use Rattle.numbers.proofs.+child_below+node_below.{statement}
+use Rattle.numbers.proofs.+child_below+node_below.Tie.{close}
 
 -- Twice the depth, and one more before the children are gone through.
 abbrev μ-child : Measures 1 child-kinds.ps ℕ

@@ -1,4 +1,4 @@
--- `quick::numbers::leaves_below` meets its contract. Assumes nothing.
+-- `numbers::leaves_below` meets its contract. Assumes nothing.
 use mathlib.Core.Path.{_≡_, sym, _∙_}
 use Prim.Native.Nat.{ℕ, _+_, _-_, _*_, _^_, _<_, _≤_}
 use native.Mathlib.Omega.{arith}
@@ -8,11 +8,11 @@ use Rattle.format.specs.Layout.{Layout, leafSize}
 use Rattle.format.specs.Readable.{LeadsTo}
 use Rattle.format.specs.Node.{child}
 use Rattle.format.specs.NodeRelation.{ChildOk, Holds}
-use Rattle.quick.specs.Quick.{numbered}
+use Rattle.numbers.specs.Numbers.{numbered}
 use Rattle.quick.proofs.Passing.{leaf-child, SoFar, none-passed, one-passed, absent-passed, all-passed}
-use Rattle.quick.proofs.Numbered.{leaf-is, leads-by, child-is, field-near}
-use Rattle.quick.proofs.numbers.leaves_below.Statement.{statement}
-use Rattle.quick.proofs.numbers.leaves_below.Tie as tie
+use Rattle.numbers.proofs.Numbered.{leaf-is, leads-by, child-is, field-near}
+use Rattle.numbers.proofs.leaves_below.Statement.{statement}
+use Rattle.numbers.proofs.leaves_below.Tie as tie
 
 abbrev Inv-loop : tie.InvT-loop
 Inv-loop archive w e ones start at first from₀ total₀ i₀ i-end from total i =

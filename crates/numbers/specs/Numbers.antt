@@ -1,0 +1,19 @@
+-- A layout as two numbers, and the bits of -1 beside them. Assumes nothing: these are definitions.
+use Prim.Native.Nat.{ℕ, suc, _-_, _^_, _≤_}
+use mathlib.Core.Path.{_≡_}
+use mathlib.Core.Bool.{true, false}
+use lib.Dec.{eqb}
+use Rattle.format.specs.Layout.{Layout, Width, two, four, eight, bytes, signBits}
+
+-- The layout of a width and of the entries a node as numbers.
+unfoldable pub widthFor : ℕ → Width
+widthFor w = elim (eqb w 4) [ true ↦ four | false ↦ elim (eqb w 2) [ true ↦ two | false ↦ eight ] ]
+
+abbrev pub numbered : ℕ → ℕ → Layout
+numbered w e = record { width = widthFor w; entries = e }
+
+-- w is a width, e is not too many, and `ones` are the bits of the offset -1.
+pub record Numbers (w e ones : ℕ) : Type 0 where
+  pub wide : bytes (widthFor w) ≡ w
+  pub few : e ≤ 15
+  pub full : ones ≡ 2 ^ suc (signBits (widthFor w)) - 1
