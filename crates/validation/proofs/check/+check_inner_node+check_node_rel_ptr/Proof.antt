@@ -164,11 +164,12 @@ inner-loop-holds t c =
 inner-loop-again : (t : ℕ) → In-inner t inner-lts.Need-loop-again
 inner-loop-again t c =
     let read : In-inner t inner-lts.After-is-invalid-at = search in
+    let turn : In-inner t inner-lts.In-loop = search in
     let head : In-inner t inner-lts.At-loop = search in (
-      search needs,
-      search needs,
-      search needs,
-      search needs,
+      omega (arith, turn .loop-test .taken),
+      head .loop .inv .1,
+      head .loop .inv .2,
+      head .loop .inv .3,
       checked-absent _ _ _ _ _ _ _ _ (head .loop .inv .4) (omega arith) (read .before .child-field .ensures .0) (read .is-invalid-at .ensures) (search),
     )
 
@@ -189,11 +190,12 @@ inner-loop-again-2 t c =
     let end : In-inner t inner-lts.After-lesser = search in
     let head : In-inner t inner-lts.At-loop = search in
     let e = c .pop-subtree-range .ensures in
+    let turn : In-inner t inner-lts.In-loop = search in
     let e₀ = head .before .push-subtree-range .ensures in (
-      search needs,
+      omega (arith, turn .loop-test .taken),
       ap (λ (r : SubtreeRange). r .end .0) e ∙ head .loop .inv .1,
-      search needs,
-      search needs,
+      head .loop .inv .2,
+      head .loop .inv .3,
       rw (ap (λ (r : SubtreeRange). r .start .0) e, ap (λ (r : SubtreeRange). r .start .0) e₀) (lesser t end),
     )
 
@@ -264,7 +266,7 @@ pub +check-inner-node+check-node-rel-ptr-spec : {M : Type 1} → statement M
     (λ c κs. search needs)
     (λ c κs. search needs)
     (λ c. search needs)
-    (λ c. search needs)
+    (λ c. let turn : In-inner t inner-lts.In-loop = search in omega (arith, turn .loop-test .taken))
     (inner-loop-again t)
     (λ c. search needs)
     (λ c κs. search needs)
@@ -274,7 +276,7 @@ pub +check-inner-node+check-node-rel-ptr-spec : {M : Type 1} → statement M
     (inner-add-total t)
     (λ c κs. search needs)
     (λ c. search needs)
-    (λ c. search needs)
+    (λ c. let turn : In-inner t inner-lts.In-loop = search in omega (arith, turn .loop-test .taken))
     (inner-loop-again-2 t)
     (λ c κs. search needs)
     (λ c κs. search needs)
