@@ -17,8 +17,8 @@ pub enum Passed {
 // 2^32: the bits of an offset that leads back are less than this by the distance.
 const WRAP: usize = 0x1_0000_0000;
 
-// The entries of an inner node in its place and of its children, where these are leaves or absent; else 0. No call is left in it, so that its loop
-// is unrolled: most inner nodes are of this kind.
+// The entries of an inner node in its place and of its children, where these are leaves or absent; else 0. No call is left in it, so that
+// its numbers stay in registers: most inner nodes are of this kind.
 fn quick_leaves(archive: &[u8], start: usize, at: usize) -> usize
     requires { ⌜ (start ≤ at) × (at + innerSize layout32 ≤ length (now archive)) × (length (now archive) ≤ standard .longest) ⌝ }
     ensures { λ r. ⌜ ((d : ℕ) → 0 < d → 0 < r → Below layout32 (now (archive .entry)) d start at r) ⌝ }
