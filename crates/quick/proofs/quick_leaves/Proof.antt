@@ -1,79 +1,93 @@
 -- `quick::quick_leaves` meets its contract. Assumes nothing.
-use mathlib.Core.Path.{refl, sym, _∙_}
-use Prim.Native.Nat.{ℕ, _+_, _-_, _*_, _<_, _≤_}
+use mathlib.Core.Path.{_≡_, refl, subst}
+use Prim.Native.Nat.{ℕ, _+_, _-_, _*_, _%_, _<_, _≤_}
 use native.Mathlib.Omega.{arith}
+use lib.ListN.{length}
 use borrow.Author.Needs.{needs}
 use Rattle.format.specs.Layout.{layout32, standard}
 use Rattle.format.specs.Node.{child}
+use Rattle.format.specs.Readable.{LeadsTo}
 use Rattle.format.specs.NodeRelation.{ChildOk, Holds}
-use Rattle.quick.proofs.Passing.{leads32, leaf-child, SoFar, none-passed, one-passed, absent-passed, all-passed}
+use Rattle.quick.proofs.Passing.{leads32, leaf-child, SoFar, none-passed, one-passed, all-passed}
 use Rattle.quick.proofs.quick_leaves.Statement.{statement}
 use Rattle.quick.proofs.quick_leaves.Tie as tie
 
+-- The range starts at a place up to leaf i.
 abbrev Inv-loop : tie.InvT-loop
-Inv-loop archive start at from₀ total₀ i₀ from total i =
-    (i ≤ 6) × (from ≤ at) × (total + start ≤ from + 5) × ((d : ℕ) → 0 < d → SoFar layout32 archive d at start i from total)
+Inv-loop archive start at fields up first total₀ i₀ total i =
+    (i ≤ 6) × (from : ℕ) × (from ≤ first + 96 * i) × ((d : ℕ) → 0 < d → SoFar layout32 archive d at start i from total)
 
 abbrev μ-loop : tie.MeasureT-loop
-μ-loop archive start at from₀ total₀ i₀ from total i = 6 - i
+μ-loop archive start at fields up first total₀ i₀ total i = 6 - i
 
-module _ (c : tie.Else6 Inv-loop μ-loop) (d : ℕ) (some : 0 < d) where
-  abbrev start : tie.Start Inv-loop μ-loop
-  start = search
+-- All six leaves lie before the node, and all these numbers are small.
+module _ (c : tie.In-loop Inv-loop μ-loop) where
+  abbrev begun : tie.Start Inv-loop μ-loop
+  begun = search
 
-  abbrev head : tie.At-loop Inv-loop μ-loop
-  head = search
+  abbrev got : tie.After-u32-at Inv-loop μ-loop
+  got = search
 
-  abbrev read : tie.After-u32-at Inv-loop μ-loop
+  abbrev first : ℕ
+  first = begun .args .at + 88 + got .u32-at .result - 0x1_0000_0000
+
+  room : (c .before .loop .i < 6) × (first + 576 ≤ begun .args .at) × (begun .args .at + 112 ≤ length (begun .args .archive .now))
+      × (length (begun .args .archive .now) ≤ 0x10_0000) × (first % 8 ≡ 0)
+  unfolding standard
+  room =
+      let even : tie.Else3 Inv-loop μ-loop = search in
+      let before : tie.Else2 Inv-loop μ-loop = search in
+      (omega (arith, c .loop-test .taken), omega (arith, before .if2 .left), begun .pre .1, begun .pre .2, even .if3 .left)
+
+module _ (c : tie.Else6 Inv-loop μ-loop) where
+  abbrev turn : tie.In-loop Inv-loop μ-loop
+  turn = search
+
+  abbrev read : tie.After-u32-at2 Inv-loop μ-loop
   read = search
 
+  abbrev i : ℕ
+  i = turn .before .loop .i
+
   abbrev p : ℕ
-  p = start .args .at + 88 + 4 * head .loop .i + read .u32-at .result - 0x1_0000_0000
+  p = first turn + 96 * i
 
-  -- Child i is a leaf in its place.
-  passed : let a = start .args in
-      ChildOk layout32 (a .archive .now) (Holds layout32 (a .archive .now) d) (head .loop .from) (a .at) (child layout32 (a .at) (head .loop .i)) (p + 96)
-      (c .before .u32-at2 .result)
-  unfolding standard
-  passed =
-      let leaf : tie.Else5 Inv-loop μ-loop = search in
-      let even : tie.Else4 Inv-loop μ-loop = search in
-      let room : tie.Else3 Inv-loop μ-loop = search in
-      let back : tie.Else2 Inv-loop μ-loop = search in
-      let turn : tie.In-loop Inv-loop μ-loop = search in
-      let small = read .u32-at .ok in
-      leaf-child layout32 _ _ _ _
-      (leads32 _ _ _ (read .u32-at .ensures) (omega (arith, small)) (omega (arith, start .pre, turn .loop-test .taken)) (omega (arith, back .if2 .left)))
-      (omega (arith, back .if2 .left)) (even .if4 .left) d some (leaf .if5 .left) refl (room .if3 .left) (c .before .u32-at2 .ensures) (c .if6 .left)
+  to : let a = begun turn .args in LeadsTo layout32 (a .archive .now) (child layout32 (a .at) i) p
+  to =
+      let led : tie.Else4 Inv-loop μ-loop = search in
+      let small = read .u32-at2 .ok in
+      let r = room turn in
+      subst (LeadsTo layout32 (begun turn .args .archive .now) (child layout32 (begun turn .args .at) i)) (omega (arith, led .if4 .left))
+      (leads32 _ _ _ (read .u32-at2 .ensures) (omega (arith, small)) (omega (arith, r)) (omega (arith, led .if4 .left)))
 
-  next : let a = start .args in
-      SoFar layout32 (a .archive .now) d (a .at) (a .start) (head .loop .i + 1) (p + 96) (head .loop .total + c .before .u32-at2 .result)
-  next = one-passed layout32 _ _ _ _ (head .loop .inv .3 d some) passed (omega arith)
+  module _ (d : ℕ) (some : 0 < d) where
+    -- Child i is a leaf in its place.
+    passed : let a = begun turn .args in
+        ChildOk layout32 (a .archive .now) (Holds layout32 (a .archive .now) d) (turn .before .loop .inv .1) (a .at) (child layout32 (a .at) i) (p + 96)
+        (c .before .u32-at3 .result)
+    passed =
+        let leaf : tie.Else5 Inv-loop μ-loop = search in
+        let r = room turn in
+        leaf-child layout32 _ _ _ _ to (turn .before .loop .inv .2) (omega (arith, r .4)) d some (leaf .if5 .left) refl (omega (arith, r .0, r .1))
+        (c .before .u32-at3 .ensures) (c .if6 .left)
 
--- Child i is absent.
-skipped : (c : tie.Then1 Inv-loop μ-loop) (d : ℕ) → 0 < d
-    → let begun : tie.Start Inv-loop μ-loop = search in
-    let head : tie.At-loop Inv-loop μ-loop = search in
-    let a = begun .args in
-    SoFar layout32 (a .archive .now) d (a .at) (a .start) (head .loop .i + 1) (head .loop .from) (head .loop .total)
-skipped c d some =
-    let head : tie.At-loop Inv-loop μ-loop = search in
-    absent-passed layout32 _ _ _ _ (head .loop .inv .3 d some) (sym (c .before .u32-at .ensures) ∙ c .if1 .taken) (omega arith)
+    next : let a = begun turn .args in
+        SoFar layout32 (a .archive .now) d (a .at) (a .start) (i + 1) (p + 96) (turn .before .loop .total + c .before .u32-at3 .result)
+    next = one-passed layout32 _ _ _ _ (turn .before .loop .inv .3 d some) passed (omega (arith, room turn .0))
 
 loop-holds : tie.Need-loop-holds Inv-loop μ-loop
-loop-holds c = (omega arith, omega arith, omega arith, λ d some. none-passed layout32 _ _ _ _ (omega arith))
+loop-holds c =
+    let start : tie.Start Inv-loop μ-loop = search in
+    (omega arith, start .args .start, omega arith, λ d some. none-passed layout32 _ _ _ _ (omega arith))
 
 add-total : tie.Need-add-total Inv-loop μ-loop
-add-total c = let h = next c 1 (omega arith) .few in omega arith
+add-total c = let h = next c 1 (omega arith) in omega (arith, h .few, room (search))
 
 loop-again : tie.Need-loop-again Inv-loop μ-loop
-loop-again c = let h = skipped c 1 (omega arith) in (omega arith, h .low, omega (arith, h .few), skipped c)
+loop-again c = (omega (arith, room (search) .0), p c + 96, omega arith, next c)
 
-loop-again-2 : tie.Need-loop-again-2 Inv-loop μ-loop
-loop-again-2 c = let h = next c 1 (omega arith) in (omega arith, h .low, h .few, next c)
-
-returns-6 : tie.Need-returns-6 Inv-loop μ-loop
-returns-6 c = λ d some h. all-passed layout32 _ _ _ _ (c .before .loop .inv .3 d some) (omega arith)
+returns-7 : tie.Need-returns-7 Inv-loop μ-loop
+returns-7 c = λ d some h. all-passed layout32 _ _ _ _ (c .before .loop .inv .3 d some) (omega arith)
 
 pub quick-leaves-spec : {M : Type 1} → statement M
 unfolding standard
@@ -82,31 +96,35 @@ quick-leaves-spec =
     (tie.spec
     Inv-loop
     μ-loop
+    (search needs)
+    (search needs)
+    (search needs)
+    (search needs)
+    (search needs)
+    (λ c. λ d some h. absurd (omega arith))
+    (search needs)
+    (search needs)
+    (search needs)
+    (λ c. λ d some h. absurd (omega arith))
+    (λ c. λ d some h. absurd (omega arith))
     loop-holds
+    (λ c. omega (arith, room c))
+    (λ c. omega (arith, room c))
+    (λ c. omega (arith, room c))
+    (λ c. omega (arith, room c))
+    (λ c κs. omega (arith, room c))
     (search needs)
-    (search needs)
-    (search needs)
-    (search needs)
-    (search needs)
-    (search needs)
-    (λ c. let turn : tie.In-loop Inv-loop μ-loop = search in omega (arith, turn .loop-test .taken))
-    loop-again
-    (search needs)
-    (search needs)
+    (λ c. let small = c .u32-at2 .ok in omega (arith, small, room (search)))
+    (λ c. omega (arith, room (search)))
     (λ c. λ d some h. absurd (omega arith))
-    (search needs)
-    (search needs)
+    (λ c. omega (arith, room (search)))
     (λ c. λ d some h. absurd (omega arith))
-    (λ c. λ d some h. absurd (omega arith))
-    (λ c. let room : tie.Else3 Inv-loop μ-loop = search in let begun : tie.Start Inv-loop μ-loop = search in omega (arith, room .if3 .left, begun .pre))
-    (λ c. λ d some h. absurd (omega arith))
-    (λ c. let room : tie.Else3 Inv-loop μ-loop = search in let begun : tie.Start Inv-loop μ-loop = search in omega (arith, room .if3 .left, begun .pre))
-    (λ c κs. let room : tie.Else3 Inv-loop μ-loop = search in let begun : tie.Start Inv-loop μ-loop = search in omega (arith, room .if3 .left, begun .pre))
+    (λ c. omega (arith, room (search)))
+    (λ c κs. omega (arith, room (search)))
     (search needs)
     (λ c. λ d some h. absurd (omega arith))
     add-total
-    (search needs)
-    (search needs)
-    (λ c. let turn : tie.In-loop Inv-loop μ-loop = search in omega (arith, turn .loop-test .taken))
-    loop-again-2
-    returns-6)
+    (λ c. omega (arith, room (search)))
+    (λ c. omega (arith, room (search)))
+    loop-again
+    returns-7)
