@@ -39,7 +39,8 @@ fn inner_of(w: usize, e: usize) -> usize
     (8 + 16 * e + w * (e + 1) + 7) / 8 * 8
 }
 
-// As `quick_leaves`.
+// The entries of an inner node in its place and of its children, where these are leaves or absent; else 0. No call is left in it, as in
+// `quick_leaves`.
 fn leaves_below(archive: &[u8], w: usize, e: usize, ones: usize, start: usize, at: usize) -> usize
     requires { ⌜ Numbers w e ones × (start ≤ at) × (at + innerSize (numbered w e) ≤ length (now archive)) ⌝ }
     ensures { λ r. ⌜ ((d : ℕ) → 0 < d → 0 < r → Below (numbered w e) (now (archive .entry)) d start at r) ⌝ }
