@@ -19,9 +19,8 @@ use Rattle.fields.proofs.Offsets.{leads-behind}
 use Rattle.quick.specs.Quick.{Below, Root}
 use Rattle.format.specs.Laws.Check.Bounds.{child-bytes, holds-bytes}
 
--- An offset of 4 bytes, x, that leads back from f.
-pub leads32 : (s : List ℕ) (f x : ℕ) → x ≡ leAt 4 s f → x < 0x1_0000_0000 → f < 0x8000_0000 → 0x1_0000_0000 ≤ f + x
-    → LeadsTo layout32 s f (f + x - 0x1_0000_0000)
+-- An offset of 4 bytes, x, that leads back from f to p.
+pub leads32 : (s : List ℕ) (f x : ℕ) {p : ℕ} → x ≡ leAt 4 s f → x < 0x1_0000_0000 → f < 0x8000_0000 → p + 0x1_0000_0000 ≡ f + x → LeadsTo layout32 s f p
 unfolding target absent
 leads32 s f x e l h g = record {
   present = ne-eqb (leAt 4 s f) 1 (λ z. omega (arith, e, z));

@@ -3,9 +3,10 @@
 use fields::primitive::u32_at;
 use format::Common;
 use format::Layout;
-ghost use Prim.Native.Nat.{ℕ, _+_, _≤_, _<_};
+ghost use mathlib.Core.Path.{_≡_};
+ghost use Prim.Native.Nat.{ℕ, _+_, _%_, _≤_, _<_};
 ghost use lib.ListN.{length};
-ghost use Rattle.format.specs.Layout.{layout32, standard, pointer, innerSize};
+ghost use Rattle.format.specs.Layout.{layout32, standard, pointer, innerSize, nodeAlign};
 ghost use Rattle.quick.specs.Quick.{Passes, Below};
 
 // A child's entries, and where the range starts after it.
@@ -17,27 +18,19 @@ pub enum Passed {
 // 2^32: the bits of an offset that leads back are less than this by the distance.
 const WRAP: usize = 0x1_0000_0000;
 
-// The entries of an inner node in its place and of its children, where these are leaves, each right behind the one before it; else 0. Most inner nodes
-// are of this kind. No call is left in it, its loop is unrolled, and the place is tested of all leaves at once.
+// The entries of an inner node in its place and of its children, where these are leaves right before it, in order; else 0. Most inner nodes are of this
+// kind. No call is left in it and its loop is unrolled, so that every place is the node's and a constant.
 fn quick_leaves(archive: &[u8], start: usize, at: usize) -> usize
-    requires { ⌜ (start ≤ at) × (at + innerSize layout32 ≤ length (now archive)) × (length (now archive) ≤ standard .longest) ⌝ }
+    requires { ⌜ (at % nodeAlign ≡ 0) × (at + innerSize layout32 ≤ length (now archive)) × (length (now archive) ≤ standard .longest) × (start ≤ at) ⌝ }
     ensures { λ r. ⌜ ((d : ℕ) → 0 < d → 0 < r → Below layout32 (now (archive .entry)) d start at r) ⌝ }
 {
-    let fields = at + Common::NODE;
-    let up = fields + u32_at(archive, fields) as usize;
-    if up < start + WRAP {
+    if at < start + Common::LEAF * Common::CHILDREN {
         return 0;
     }
-    let first = up - WRAP;
-    if at < first + Common::LEAF * Common::CHILDREN {
-        return 0;
-    }
-    if first % Layout::NODE_ALIGN != 0 {
-        return 0;
-    }
+    let first = at - Common::LEAF * Common::CHILDREN;
     let mut total = Common::ENTRIES;
     for i in 0..Common::CHILDREN {
-        let field = fields + Common::POINTER * i;
+        let field = at + Common::NODE + Common::POINTER * i;
         let p = first + Common::LEAF * i;
         if field + u32_at(archive, field) as usize != p + WRAP {
             return 0;
@@ -54,28 +47,29 @@ fn quick_leaves(archive: &[u8], start: usize, at: usize) -> usize
     total
 }
 
-// The child that a field leads to, with all below it: absent, a leaf or an inner node in its place.
+// The child that a field leads to, with all below it: absent, a leaf or an inner node in its place. What the bits of an offset lack of those of -1 is the
+// distance back less one.
 fn quick_child(archive: &[u8], start: usize, end: usize, field: usize, depth: usize) -> Passed
     requires { ⌜ (start ≤ end) × (end ≤ field) × (field + pointer layout32 ≤ length (now archive)) × (length (now archive) ≤ standard .longest)
         × (0 < depth) ⌝ }
     ensures { λ r. ⌜ Passes layout32 (now (archive .entry)) depth start end field r ⌝ }
 {
-    let offset = u32_at(archive, field) as usize;
+    let offset = u32_at(archive, field);
     if offset == 1 {
         return Passed::Entries(0, start);
     }
-    let up = field + offset;
-    if up < start + WRAP {
+    let back = (0xffff_ffff - offset) as usize;
+    if field - start <= back {
         return Passed::No;
     }
-    let p = up - WRAP;
-    if end < p + Common::LEAF {
-        return Passed::No;
-    }
+    let p = field - 1 - back;
     if p % Layout::NODE_ALIGN != 0 {
         return Passed::No;
     }
     if archive[p] == 0 {
+        if end < p + Common::LEAF {
+            return Passed::No;
+        }
         let count = u32_at(archive, p + Common::NODE) as usize;
         if count > Common::ENTRIES {
             return Passed::No;
@@ -97,7 +91,7 @@ fn quick_child(archive: &[u8], start: usize, end: usize, field: usize, depth: us
 
 // The entries of an inner node in its place and of all below it, where `depth` nodes may be nested; else 0.
 pub fn quick_node(archive: &[u8], start: usize, at: usize, depth: usize) -> usize
-    requires { ⌜ (start ≤ at) × (at + innerSize layout32 ≤ length (now archive)) × (length (now archive) ≤ standard .longest) ⌝ }
+    requires { ⌜ (at % nodeAlign ≡ 0) × (at + innerSize layout32 ≤ length (now archive)) × (length (now archive) ≤ standard .longest) × (start ≤ at) ⌝ }
     ensures { λ r. ⌜ (0 < r → Below layout32 (now (archive .entry)) depth start at r) ⌝ }
 {
     if depth == 0 {

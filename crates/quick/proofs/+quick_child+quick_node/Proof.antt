@@ -1,11 +1,12 @@
 -- `quick::quick_child` and `quick::quick_node`, which call each other, meet their contracts. Assumes nothing.
-use mathlib.Core.Path.{refl, sym, _∙_}
+use mathlib.Core.Path.{_≡_, refl, sym, _∙_}
 use Prim.Native.Nat.{ℕ, _+_, _-_, _<_, _≤_}
 use native.Mathlib.Omega.{arith}
 use borrow.Author.Needs.{needs}
 use borrow.Fn.Kinds.{In, Out}
 use borrow.Fn.PlainCycle.{Measures, is, falls, and}
 use Rattle.format.specs.Layout.{layout32, standard}
+use Rattle.format.specs.Readable.{LeadsTo}
 use Rattle.quick.proofs.Passing.{leads32, absent-child, leaf-child, inner-child, SoFar, none-passed, one-passed, all-passed}
 use Rattle.quick.proofs.quick_child.Reads as child
 use Rattle.quick.proofs.quick_child.Kinds as child-kinds
@@ -51,27 +52,42 @@ child-returns t c =
     let start : In-child t child-lts.Start = search in
     absent-child layout32 _ _ _ _ (start .args .depth) (sym (c .before .u32-at .ensures) ∙ c .if1 .taken)
 
+-- The field leads back, to a place in the range.
+module _ (t : ℕ) (c : In-child t child-lts.Else3) where
+  abbrev asked : In-child t child-lts.Start
+  asked = search
+
+  abbrev read : In-child t child-lts.After-u32-at
+  read = search
+
+  abbrev p : ℕ
+  p = asked .args .field - 1 - (0xffff_ffff - read .u32-at .result)
+
+  back : (p + 0x1_0000_0000 ≡ asked .args .field + read .u32-at .result) × (asked .args .start ≤ p)
+  back =
+      let room : In-child t child-lts.Else2 = search in
+      let small = read .u32-at .ok in
+      (omega (arith, small, room .if2 .left), omega (arith, small, room .if2 .left))
+
+  to : LeadsTo layout32 (asked .args .archive .now) (asked .args .field) p
+  unfolding standard
+  to = let small = read .u32-at .ok in leads32 _ _ _ (read .u32-at .ensures) (omega (arith, small)) (omega (arith, asked .pre)) (back .0)
+
 child-returns-6 : (t : ℕ) → In-child t child-lts.Need-returns-6
-unfolding standard
 child-returns-6 t c =
-    let leaf : In-child t child-lts.Then5 = search in
-    let start : In-child t child-lts.Start = search in
-    let even : In-child t child-lts.Else4 = search in
-    let read : In-child t child-lts.After-u32-at = search in
-    let small = read .u32-at .ok in
-    leaf-child layout32 _ _ _ _ (leads32 _ _ _ (read .u32-at .ensures) (omega arith) (omega arith) (omega arith)) (omega arith) (even .if4 .left)
-    (start .args .depth) (omega arith) (leaf .if5 .taken) refl (omega arith) (c .before .u32-at2 .ensures) (omega arith)
+    let high : In-child t child-lts.Else5 = search in
+    let leaf : In-child t child-lts.Then4 = search in
+    let even : In-child t child-lts.Else3 = search in
+    leaf-child layout32 _ _ _ _ (to t even) (back t even .1) (even .if3 .left) (asked t even .args .depth) (asked t even .pre .1 .4) (leaf .if4 .taken) refl
+    (high .if5 .left) (c .before .u32-at2 .ensures) (c .if6 .left)
 
 child-returns-10 : (t : ℕ) → In-child t child-lts.Need-returns-10
-unfolding standard
 child-returns-10 t c =
+    let high : In-child t child-lts.Else8 = search in
     let inner : In-child t child-lts.Else7 = search in
-    let start : In-child t child-lts.Start = search in
-    let even : In-child t child-lts.Else4 = search in
-    let read : In-child t child-lts.After-u32-at = search in
-    let small = read .u32-at .ok in
-    inner-child layout32 _ _ _ _ (leads32 _ _ _ (read .u32-at .ensures) (omega arith) (omega arith) (omega arith)) (omega arith) (even .if4 .left)
-    (inner .if7 .left) refl (omega arith) (start .args .depth) (omega arith) (c .before .quick-node .ensures (omega arith))
+    let even : In-child t child-lts.Else3 = search in
+    inner-child layout32 _ _ _ _ (to t even) (back t even .1) (even .if3 .left) (inner .if7 .left) refl (high .if8 .left) (asked t even .args .depth)
+    (asked t even .pre .1 .4) (c .before .quick-node .ensures (omega arith))
 
 -- ---- quick_node
 
@@ -127,8 +143,9 @@ pub +quick-child+quick-node-spec : {M : Type 1} → statement M
 unfolding standard
 +quick-child+quick-node-spec = close μ-child μ-node (λ t. child-lts.spec (child-calls t) (child-at t) child.Post
     (λ c κs. search needs)
-    (λ c. search needs)
     (child-returns t)
+    (λ c. search needs)
+    (λ c. search needs)
     (λ c. search needs)
     (λ c. search needs)
     (λ c. search needs)
