@@ -62,14 +62,14 @@ fn leaves_below(archive: &[u8], w: usize, e: usize, ones: usize, start: usize, a
             return 0;
         }
         let p = field - 1 - back;
-        let after = p + (8 + 16 * e);
-        if at < after + 8 {
-            return 0;
-        }
         if p % Layout::NODE_ALIGN != 0 {
             return 0;
         }
         if archive[p] != 0 {
+            return 0;
+        }
+        let after = p + (8 + 16 * e);
+        if at < after + 8 {
             return 0;
         }
         let count = number_at(archive, after, w);
@@ -108,14 +108,14 @@ fn child_below(
         return Passed::No;
     }
     let p = field - 1 - back;
-    let after = p + (8 + 16 * e);
-    if end < after + 8 {
-        return Passed::No;
-    }
     if p % Layout::NODE_ALIGN != 0 {
         return Passed::No;
     }
     if archive[p] == 0 {
+        let after = p + (8 + 16 * e);
+        if end < after + 8 {
+            return Passed::No;
+        }
         let count = number_at(archive, after, w);
         if count > e {
             return Passed::No;

@@ -94,20 +94,20 @@ child-returns t c =
 child-returns-7 : (t : ℕ) → In-child t child-lts.Need-returns-7
 child-returns-7 t c =
     let back : In-child t child-lts.Else3 = search in
-    let leaf : In-child t child-lts.Then6 = search in
-    let even : In-child t child-lts.Else5 = search in
-    let room : In-child t child-lts.Else4 = search in
-    leaf-child _ _ _ _ _ (to t back) (low t back) (even .if5 .left) (entry t back .args .depth) (entry t back .pre .1 .4) (leaf .if6 .taken)
-    (ends t back) (room .if4 .left) (c .before .number-at2 .ensures .0) (c .if7 .left)
+    let even : In-child t child-lts.Else4 = search in
+    let leaf : In-child t child-lts.Then5 = search in
+    let room : In-child t child-lts.Else6 = search in
+    leaf-child _ _ _ _ _ (to t back) (low t back) (even .if4 .left) (entry t back .args .depth) (entry t back .pre .1 .4) (leaf .if5 .taken)
+    (ends t back) (room .if6 .left) (c .before .number-at2 .ensures .0) (c .if7 .left)
 
 child-returns-11 : (t : ℕ) → In-child t child-lts.Need-returns-11
 child-returns-11 t c =
     let back : In-child t child-lts.Else3 = search in
     let inner : In-child t child-lts.Else8 = search in
-    let even : In-child t child-lts.Else5 = search in
+    let even : In-child t child-lts.Else4 = search in
     let room : In-child t child-lts.Else9 = search in
     let sized : In-child t child-lts.After-inner-of = search in
-    inner-child _ _ _ _ _ (to t back) (low t back) (even .if5 .left) (inner .if8 .left) (ap (λ (n : ℕ). at t back + n) (sized .inner-of .ensures .0))
+    inner-child _ _ _ _ _ (to t back) (low t back) (even .if4 .left) (inner .if8 .left) (ap (λ (n : ℕ). at t back + n) (sized .inner-of .ensures .0))
     (room .if9 .left) (entry t back .args .depth) (entry t back .pre .1 .4) (c .before .node-below .ensures (omega (arith, c .if10 .left)))
 
 -- ---- node_below
@@ -183,12 +183,12 @@ pub +child-below+node-below-spec : {M : Type 1} → statement M
     (λ c. omega (arith, c .if3 .left))
     (λ c. search needs)
     (λ c. search needs)
-    (λ c. omega (arith, small t c))
-    (λ c. omega (arith, small t c))
     (λ c. search needs)
     (λ c. search needs)
+    (λ c. omega (arith, small t (search)))
+    (λ c. omega (arith, small t (search)))
     (λ c. search needs)
-    (λ c κs. let room : In-child t child-lts.Else4 = search in (search needs, omega (arith, room .if4 .left, entry t (search) .pre .1)))
+    (λ c κs. let room : In-child t child-lts.Else6 = search in (search needs, omega (arith, room .if6 .left, entry t (search) .pre .1)))
     (λ c. search needs)
     (λ c. search needs)
     (child-returns-7 t)

@@ -95,11 +95,11 @@ passed : (c : tie.Else7 Inv-loop μ-loop) (d : ℕ) → 0 < d
     (head .loop .total + c .before .number-at2 .result)
 passed c d some =
     let back : tie.Else3 Inv-loop μ-loop = search in
-    let room : tie.Else4 Inv-loop μ-loop = search in
-    let even : tie.Else5 Inv-loop μ-loop = search in
-    let leaf : tie.Else6 Inv-loop μ-loop = search in
+    let even : tie.Else4 Inv-loop μ-loop = search in
+    let leaf : tie.Else5 Inv-loop μ-loop = search in
+    let room : tie.Else6 Inv-loop μ-loop = search in
     next (read back) d some
-    (leaf-child _ _ _ _ _ (to back) (low back) (even .if5 .left) d some (leaf .if6 .left) (ends back) (room .if4 .left) (c .before .number-at2 .ensures .0)
+    (leaf-child _ _ _ _ _ (to back) (low back) (even .if4 .left) d some (leaf .if5 .left) (ends back) (room .if6 .left) (c .before .number-at2 .ensures .0)
     (c .if7 .left))
 
 loop-holds : tie.Need-loop-holds Inv-loop μ-loop
@@ -140,15 +140,15 @@ leaves-below-spec =
     (λ c. λ d some h. absurd (omega arith))
     (λ c. omega (arith, c .if3 .left))
     (λ c. omega (arith, c .if3 .left))
+    (λ c. λ d some h. absurd (omega arith))
+    (λ c. let back : tie.Else3 Inv-loop μ-loop = search in omega (arith, back .if3 .left, near (search)))
+    (λ c. λ d some h. absurd (omega arith))
     (search needs)
     (search needs)
     (λ c. omega (arith, near (search)))
     (λ c. omega (arith, near (search)))
     (λ c. λ d some h. absurd (omega arith))
-    (λ c. λ d some h. absurd (omega arith))
-    (λ c. let room : tie.Else4 Inv-loop μ-loop = search in omega (arith, room .if4 .left, near (search)))
-    (λ c. λ d some h. absurd (omega arith))
-    (search needs)
+    (λ c κs. (search needs, omega (arith, near (search))))
     (λ c. λ d some h. absurd (omega arith))
     add-total
     (λ c. omega (arith, near (search)))
