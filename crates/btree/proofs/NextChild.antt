@@ -15,10 +15,10 @@ use Rattle.format.specs.Laws.Read.Children.{onChild, on-at, on-absent}
 module _ (L : Layout) (s : List ℕ) {A S : Type 0} (add : A → S → S) (none : A) (stays : (o : S) → add none o ≡ o) (give : ℕ → A) where
   -- r is what was read of child i of the node at p, o the state before it and o₁ after it.
   module _ (p i : ℕ) (r : Child) (o o₁ : S) (read : r ≡ childAt L s (child L p i)) where
-    pub child-added : (q : Position) → r ≡ At q → o₁ ≡ add (give (q .0)) o → o₁ ≡ add (onChild none give (childAt L s (child L p i))) o
+    child-added : (q : Position) → r ≡ At q → o₁ ≡ add (give (q .0)) o → o₁ ≡ add (onChild none give (childAt L s (child L p i))) o
     child-added q k e = e ∙ ap (λ (x : A). add x o) (sym (on-at none give (childAt L s (child L p i)) q (sym read ∙ k)))
 
-    pub child-none : r ≡ Absent → o₁ ≡ o → o₁ ≡ add (onChild none give (childAt L s (child L p i))) o
+    child-none : r ≡ Absent → o₁ ≡ o → o₁ ≡ add (onChild none give (childAt L s (child L p i))) o
     child-none k e = e ∙ sym (stays o) ∙ ap (λ (x : A). add x o) (sym (on-absent none give (childAt L s (child L p i)) (sym read ∙ k)))
 
     -- Where both arms of the test for a child meet.

@@ -1,1 +1,1 @@
-pub mod Sink
+pub mod Taken

@@ -1,6 +1,5 @@
 // The range of an archive whose keys ascend (rkyv's src/collections/btree/map/iter.rs). What is open, included or excluded is decided here, before a
 // node is read.
-use crate::node::Ranged;
 use crate::node::range_node;
 use format::Bound;
 use format::Ends;
@@ -48,6 +47,12 @@ fn ends_of(lower: Bound, upper: Bound) -> Ends
     Ends::Keys { least, greatest }
 }
 
+// What a range answers: the number written and the number matching.
+pub struct Ranged {
+    pub written: usize,
+    pub matching: usize,
+}
+
 // Writes the entries from the root on whose keys meet both bounds, from the front of both lists until the shorter is full, and counts them all.
 pub fn range_with(
     archive: &[u8],
@@ -74,5 +79,10 @@ pub fn range_with(
     let Ends::Keys { least, greatest } = ends_of(lower, upper) else {
         return none;
     };
-    range_node(archive, layout, root, least, greatest, keys, values, none)
+    let matching = range_node(archive, layout, root, least, greatest, keys, values);
+    let room = fields::least::least(keys.len(), values.len());
+    Ranged {
+        written: fields::least::least(matching, room),
+        matching,
+    }
 }

@@ -9,46 +9,20 @@ use format::Layout;
 use format::Position;
 ghost use mathlib.Core.Path.{_≡_};
 ghost use Prim.Native.Nat.{_+_, _^_, _<_, _≤_};
-ghost use lib.ListN.{length};
+ghost use lib.ListN.{length, getD};
 ghost use Rattle.format.specs.declared.Ends.the-variants.{Keys};
 ghost use Rattle.format.specs.Layout.{layoutOf, standard, nested, headSize};
-ghost use Rattle.format.specs.Node.{leafCount, slot};
+ghost use Rattle.format.specs.Bytes.{leAt};
+ghost use Rattle.format.specs.Node.{keyAt, leafCount};
 ghost use Rattle.format.specs.Entries.{slots, listAt};
 ghost use Rattle.format.specs.Certify.{Ascending};
 ghost use Rattle.format.specs.Range.{held, select};
-ghost use Rattle.format.specs.Readable.{Node, LeafNode, InnerNode};
-ghost use Rattle.ranges.specs.Sink.{sink, taken, ranged};
+ghost use Rattle.format.specs.Readable.{Node, LeafNode};
+ghost use Rattle.format.specs.Written.{out};
+ghost use Rattle.ranges.specs.Taken.{ranged};
 
-// What a range answers: the number written and the number matching.
-pub struct Ranged {
-    pub written: usize,
-    pub matching: usize,
-}
-
-// Counts slot i, and writes it where both lists have room.
-fn range_slot(
-    archive: &[u8],
-    layout: Layout,
-    pos: Position,
-    i: usize,
-    keys: &mut [u64],
-    values: &mut [u64],
-    done: Ranged,
-) -> Ranged
-    requires { ⌜ (layout .entries ≤ 15) × (pos .0 + headSize (layoutOf layout) ≤ length (now archive)) × (i < layout .entries)
-        × (done .matching + 1 < 2 ^ 64) ⌝ }
-    ensures { λ r. ⌜ sink (now (keys .exit)) (now (values .exit)) (r .written) (r .matching)
-        ≡ taken (slot (layoutOf layout) (now (archive .entry)) (pos .0) i)
-        (sink (now (keys .entry)) (now (values .entry)) (done .written) (done .matching)) ⌝ }
-{
-    let at = done.written;
-    let before = done.matching;
-    let written = visit_key_value_raw(archive, layout, pos, i, keys, values, at);
-    let matching = before + 1;
-    Ranged { written, matching }
-}
-
-// Counts and writes a leaf's slots with keys from `least` to `greatest`; stops at the first key past them.
+// Counts a leaf's slots with keys from `least` to `greatest`, and writes them where both lists have room; stops at the first key past them. `start` is
+// the number that match before it.
 fn range_leaf(
     archive: &[u8],
     layout: Layout,
@@ -57,36 +31,49 @@ fn range_leaf(
     greatest: u64,
     keys: &mut [u64],
     values: &mut [u64],
-    start: Ranged,
-) -> Ranged
+    start: usize,
+) -> usize
     requires { ⌜ layout .entries ≤ 15 ⌝ }
     requires { ⌜ LeafNode (layoutOf layout) (now archive) (pos .0) ⌝ }
     requires { ⌜ Ascending (slots (layoutOf layout) (now archive) (pos .0) (leafCount (layoutOf layout) (now archive) (pos .0)) 0) ⌝ }
-    requires { ⌜ start .matching
+    requires { ⌜ start
         + length (select (held (Keys least greatest)) (slots (layoutOf layout) (now archive) (pos .0) (leafCount (layoutOf layout) (now archive) (pos .0)) 0))
         < 2 ^ 64 ⌝ }
-    ensures { λ r. ⌜ sink (now (keys .exit)) (now (values .exit)) (r .written) (r .matching)
+    ensures { λ r. ⌜ out (now (keys .exit)) (now (values .exit)) r
         ≡ ranged least greatest (slots (layoutOf layout) (now (archive .entry)) (pos .0) (leafCount (layoutOf layout) (now (archive .entry)) (pos .0)) 0)
-        (sink (now (keys .entry)) (now (values .entry)) (start .written) (start .matching)) ⌝ }
+        (out (now (keys .entry)) (now (values .entry)) start) ⌝ }
 {
     let p = pos.0;
     let n = leaf_len(archive, layout, pos);
-    let mut done = start;
+    let mut at = start;
     for i in 0..n {
         let k = u64_at(archive, p + Layout::KEYS + 8 * i);
-        if k < least {
-            continue;
-        }
         if greatest < k {
-            return done;
+            return at;
         }
-        done = range_slot(archive, layout, pos, i, keys, values, done);
+        if least <= k {
+            let _ = visit_key_value_raw(archive, layout, pos, i, keys, values, at);
+            at += 1;
+        }
     }
-    done
+    at
+}
+
+// The key of slot i of an inner node; the greatest of all keys for the greater child, which no slot follows.
+fn key_after(archive: &[u8], layout: Layout, pos: Position, i: usize) -> u64
+    requires { ⌜ (layout .entries ≤ 15) × (pos .0 + headSize (layoutOf layout) ≤ length (now archive)) ⌝ }
+    ensures { λ r. ⌜ (i < layout .entries → r ≡ leAt 8 (now (archive .entry)) (keyAt (layoutOf layout) (pos .0) i))
+        × (layout .entries ≤ i → r + 1 ≡ 2 ^ 64) ⌝ }
+{
+    let p = pos.0;
+    if i < layout.entries {
+        return u64_at(archive, p + Layout::KEYS + 8 * i);
+    }
+    0xffff_ffff_ffff_ffff
 }
 
 // The same from an inner node on. A child whose slot is below `least` is passed over, and so is all that follows the child of the first slot past
-// `greatest`.
+// `greatest`. A leaf takes no call of this function.
 fn range_inner(
     archive: &[u8],
     layout: Layout,
@@ -95,37 +82,41 @@ fn range_inner(
     greatest: u64,
     keys: &mut [u64],
     values: &mut [u64],
-    start: Ranged,
-) -> Ranged
-    requires { ⌜ layout .entries ≤ 15 ⌝ }
-    requires { ⌜ Node (layoutOf layout) standard (now archive) (pos .0) ⌝ }
-    requires { ⌜ InnerNode (layoutOf layout) (now archive) (pos .0) ⌝ }
+    start: usize,
+) -> usize
+    requires { ⌜ (layout .entries ≤ 15) × Node (layoutOf layout) standard (now archive) (pos .0) × (getD (now archive) (pos .0) 0 ≡ 0 → ⊥) ⌝ }
     requires { ⌜ Ascending (listAt (layoutOf layout) (now archive) (nested standard) (pos .0)) ⌝ }
-    requires { ⌜ start .matching + length (select (held (Keys least greatest)) (listAt (layoutOf layout) (now archive) (nested standard) (pos .0)))
-        < 2 ^ 64 ⌝ }
-    ensures { λ r. ⌜ sink (now (keys .exit)) (now (values .exit)) (r .written) (r .matching)
+    requires { ⌜ start + length (select (held (Keys least greatest)) (listAt (layoutOf layout) (now archive) (nested standard) (pos .0))) < 2 ^ 64 ⌝ }
+    ensures { λ r. ⌜ out (now (keys .exit)) (now (values .exit)) r
         ≡ ranged least greatest (listAt (layoutOf layout) (now (archive .entry)) (nested standard) (pos .0))
-        (sink (now (keys .entry)) (now (values .entry)) (start .written) (start .matching)) ⌝ }
+        (out (now (keys .entry)) (now (values .entry)) start) ⌝ }
 {
-    let p = pos.0;
-    let mut done = start;
-    for i in 0..layout.entries {
-        let key = u64_at(archive, p + Layout::KEYS + 8 * i);
+    let mut at = start;
+    let mut i = 0;
+    while i <= layout.entries {
+        let key = key_after(archive, layout, pos, i);
         if key < least {
+            i += 1;
             continue;
         }
         if let Child::At(q) = child_at(archive, layout, pos, i) {
-            done = range_node(archive, layout, q, least, greatest, keys, values, done);
+            let p = q.0;
+            if archive[p] == 0 {
+                at = range_leaf(archive, layout, q, least, greatest, keys, values, at);
+            } else {
+                at = range_inner(archive, layout, q, least, greatest, keys, values, at);
+            }
         }
-        if greatest < key {
-            return done;
+        if i < layout.entries {
+            if greatest < key {
+                return at;
+            }
+            let _ = visit_key_value_raw(archive, layout, pos, i, keys, values, at);
+            at += 1;
         }
-        done = range_slot(archive, layout, pos, i, keys, values, done);
+        i += 1;
     }
-    let Child::At(q) = child_at(archive, layout, pos, layout.entries) else {
-        return done;
-    };
-    range_node(archive, layout, q, least, greatest, keys, values, done)
+    at
 }
 
 // The same from any node on.
@@ -137,20 +128,17 @@ pub(crate) fn range_node(
     greatest: u64,
     keys: &mut [u64],
     values: &mut [u64],
-    start: Ranged,
-) -> Ranged
+) -> usize
     requires { ⌜ layout .entries ≤ 15 ⌝ }
     requires { ⌜ Node (layoutOf layout) standard (now archive) (pos .0) ⌝ }
     requires { ⌜ Ascending (listAt (layoutOf layout) (now archive) (nested standard) (pos .0)) ⌝ }
-    requires { ⌜ start .matching + length (select (held (Keys least greatest)) (listAt (layoutOf layout) (now archive) (nested standard) (pos .0)))
-        < 2 ^ 64 ⌝ }
-    ensures { λ r. ⌜ sink (now (keys .exit)) (now (values .exit)) (r .written) (r .matching)
+    ensures { λ r. ⌜ out (now (keys .exit)) (now (values .exit)) r
         ≡ ranged least greatest (listAt (layoutOf layout) (now (archive .entry)) (nested standard) (pos .0))
-        (sink (now (keys .entry)) (now (values .entry)) (start .written) (start .matching)) ⌝ }
+        (out (now (keys .entry)) (now (values .entry)) 0) ⌝ }
 {
     let p = pos.0;
     if archive[p] == 0 {
-        return range_leaf(archive, layout, pos, least, greatest, keys, values, start);
+        return range_leaf(archive, layout, pos, least, greatest, keys, values, 0);
     }
-    range_inner(archive, layout, pos, least, greatest, keys, values, start)
+    range_inner(archive, layout, pos, least, greatest, keys, values, 0)
 }

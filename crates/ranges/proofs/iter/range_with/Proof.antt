@@ -9,7 +9,8 @@ use Rattle.format.specs.Bytes.{AllBytes}
 use Rattle.format.specs.Entries.{listAt}
 use Rattle.format.specs.Range.{matches, select, held}
 use Rattle.format.specs.Laws.Range.Ends.{none-held, node-ends}
-use Rattle.ranges.proofs.Ranges.{range-lists, range-matching, node-fits, none-written}
+use Rattle.ranges.proofs.EntryByEntry.{range-written}
+use Rattle.ranges.proofs.Ranges.{none-written}
 use borrow.Author.Needs.{needs}
 use Rattle.ranges.proofs.iter.range_with.Statement.{statement}
 use Rattle.ranges.proofs.iter.range_with.Tie as tie
@@ -34,14 +35,17 @@ returns c =
     let start : tie.Start = search in
     none-written _ _ _ (same decided Nothing (c .enum-told .given .1) ∙ none-held (entries start))
 
-range-node-requires : tie.Need-range-node-requires
-range-node-requires c κs = (search needs, (search, (search, search node-fits)))
-
 returns-2 : tie.Need-returns-2
 returns-2 c =
     let decided : tie.After-ends-of = search in
     let ends : tie.After-least = search in
-    rw (same decided _ (ends .least .given .1)) (search range-lists, search range-matching)
+    let done : tie.After-range-node = search in
+    let keys : tie.After-keys = search in
+    let values : tie.After-values = search in
+    let room : tie.After-least2 = search in
+    let written : tie.After-least3 = search in
+    rw (same decided _ (ends .least .given .1)) (range-written _ _ _ _ _ (done .range-node .ensures) (keys .keys .given) (values .values .given)
+    (room .least2 .ensures) (written .least3 .ensures))
 
 pub range-with-spec : {M : Type 1} → statement M
 range-with-spec =
@@ -51,7 +55,9 @@ range-with-spec =
     (search needs)
     (search needs)
     returns
-    range-node-requires
+    (λ c κs. search needs)
+    (λ c κs. search needs)
+    (λ c κs. search needs)
     (search needs)
     (search needs)
     returns-2)
