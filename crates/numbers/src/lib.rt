@@ -39,12 +39,16 @@ fn inner_of(w: usize, e: usize) -> usize
     (8 + 16 * e + w * (e + 1) + 7) / 8 * 8
 }
 
-// The entries of an inner node in its place and of its children, where these are leaves or absent; else 0. No call is left in it, as in
+// The entries of an inner node in its place and of its children, where these are absent or leaves, the first where the range starts and each right
+// behind the one before it, as the crate writes them; else 0. So a leaf's place is known before its field is read. No call is left in it, as in
 // `quick_leaves`.
 fn leaves_below(archive: &[u8], w: usize, e: usize, ones: usize, start: usize, at: usize) -> usize
     requires { ⌜ Numbers w e ones × (start ≤ at) × (at + innerSize (numbered w e) ≤ length (now archive)) ⌝ }
     ensures { λ r. ⌜ ((d : ℕ) → 0 < d → 0 < r → Below (numbered w e) (now (archive .entry)) d start at r) ⌝ }
 {
+    if start % Layout::NODE_ALIGN != 0 {
+        return 0;
+    }
     let first = at + (8 + 16 * e);
     let mut from = start;
     let mut total = e;
@@ -58,17 +62,13 @@ fn leaves_below(archive: &[u8], w: usize, e: usize, ones: usize, start: usize, a
         if offset <= back {
             return 0;
         }
-        if field - from <= back {
+        if back != field - 1 - from {
             return 0;
         }
-        let p = field - 1 - back;
-        if p % Layout::NODE_ALIGN != 0 {
+        if archive[from] != 0 {
             return 0;
         }
-        if archive[p] != 0 {
-            return 0;
-        }
-        let after = p + (8 + 16 * e);
+        let after = from + (8 + 16 * e);
         if at < after + 8 {
             return 0;
         }

@@ -1,6 +1,6 @@
 -- `numbers::leaves_below` meets its contract. Assumes nothing.
-use mathlib.Core.Path.{_≡_, sym, _∙_}
-use Prim.Native.Nat.{ℕ, _+_, _-_, _*_, _^_, _<_, _≤_}
+use mathlib.Core.Path.{_≡_, sym, _∙_, subst}
+use Prim.Native.Nat.{ℕ, _+_, _-_, _*_, _%_, _^_, _<_, _≤_}
 use native.Mathlib.Omega.{arith}
 use lib.ListN.{length}
 use borrow.Author.Needs.{needs}
@@ -16,7 +16,8 @@ use Rattle.numbers.proofs.leaves_below.Tie as tie
 
 abbrev Inv-loop : tie.InvT-loop
 Inv-loop archive w e ones start at first from₀ total₀ i₀ i-end from total i =
-    (i ≤ e + 1) × (from ≤ at) × (total + start ≤ from + e) × ((d : ℕ) → 0 < d → SoFar (numbered w e) archive d at start i from total)
+    (i ≤ e + 1) × (from ≤ at) × (from % 8 ≡ 0) × (total + start ≤ from + e)
+    × ((d : ℕ) → 0 < d → SoFar (numbered w e) archive d at start i from total)
 
 abbrev μ-loop : tie.MeasureT-loop
 μ-loop archive w e ones start at first from₀ total₀ i₀ i-end from total i = e + 1 - i
@@ -58,64 +59,70 @@ module _ (c : tie.After-number-at Inv-loop μ-loop) where
   next : {t n : ℕ} (d : ℕ) → 0 < d
       → ChildOk L (start .args .archive .now) (Holds L (start .args .archive .now) d) (head .loop .from) (start .args .at) field t n
       → SoFar L (start .args .archive .now) d (start .args .at) (start .args .start) (head .loop .i + 1) t (head .loop .total + n)
-  next d some ok = one-passed _ _ _ _ _ (head .loop .inv .3 d some) (rw same at ok) (omega arith)
+  next d some ok = one-passed _ _ _ _ _ (head .loop .inv .4 d some) (rw same at ok) (omega arith)
 
-module _ (c : tie.Else3 Inv-loop μ-loop) where
+-- The field leads to where the range starts.
+module _ (c : tie.Else4 Inv-loop μ-loop) where
   abbrev read : tie.After-number-at Inv-loop μ-loop
   read = search
 
   abbrev at : ℕ
-  at = field read - 1 - (start read .args .ones - read .number-at .result)
-
-  low : head read .loop .from ≤ at
-  low = omega (arith, c .if3 .left)
+  at = head read .loop .from
 
   ends : at + (8 + 16 * start read .args .e) + 8 ≡ at + leafSize (L read)
   ends = omega (arith, leaf-is (L read))
 
   to : LeadsTo (L read) (start read .args .archive .now) (field read) at
   to =
-      leads-by (L read) _ _ _ _ (read .number-at .ensures .0) (read .number-at .ensures .1) (start read .pre .0 .full) (c .before .if2 .left)
-      (omega (arith, c .if3 .left))
+      let inv = head read .loop .inv in
+      subst (LeadsTo (L read) (start read .args .archive .now) (field read)) (omega (arith, inv .1, c .if4 .left))
+      (leads-by (L read) _ _ _ _ (read .number-at .ensures .0) (read .number-at .ensures .1) (start read .pre .0 .full) (c .before .if3 .left)
+      (omega (arith, inv .1, c .if4 .left)))
 
 -- Child i is absent, or a leaf in its place.
-skipped : (c : tie.Then1 Inv-loop μ-loop) (d : ℕ) → 0 < d
+skipped : (c : tie.Then2 Inv-loop μ-loop) (d : ℕ) → 0 < d
     → let a = start (c .before) .args in
     let head = head (c .before) in
     SoFar (L (c .before)) (a .archive .now) d (a .at) (a .start) (head .loop .i + 1) (head .loop .from) (head .loop .total)
 skipped c d some =
-    absent-passed _ _ _ _ _ (head (c .before) .loop .inv .3 d some) (rw (same (c .before)) at (sym (c .before .number-at .ensures .0) ∙ c .if1 .taken))
+    absent-passed _ _ _ _ _ (head (c .before) .loop .inv .4 d some) (rw (same (c .before)) at (sym (c .before .number-at .ensures .0) ∙ c .if2 .taken))
     (omega arith)
 
 passed : (c : tie.Else7 Inv-loop μ-loop) (d : ℕ) → 0 < d
-    → let back : tie.Else3 Inv-loop μ-loop = search in
+    → let back : tie.Else4 Inv-loop μ-loop = search in
     let a = start (read back) .args in
     let head = head (read back) in
     SoFar (L (read back)) (a .archive .now) d (a .at) (a .start) (head .loop .i + 1) (at back + (8 + 16 * a .e) + 8)
     (head .loop .total + c .before .number-at2 .result)
 passed c d some =
-    let back : tie.Else3 Inv-loop μ-loop = search in
-    let even : tie.Else4 Inv-loop μ-loop = search in
+    let back : tie.Else4 Inv-loop μ-loop = search in
+    let inv = head (read back) .loop .inv in
     let leaf : tie.Else5 Inv-loop μ-loop = search in
     let room : tie.Else6 Inv-loop μ-loop = search in
     next (read back) d some
-    (leaf-child _ _ _ _ _ (to back) (low back) (even .if4 .left) d some (leaf .if5 .left) (ends back) (room .if6 .left) (c .before .number-at2 .ensures .0)
+    (leaf-child _ _ _ _ _ (to back) (omega arith) (inv .2) d some (leaf .if5 .left) (ends back) (room .if6 .left) (c .before .number-at2 .ensures .0)
     (c .if7 .left))
 
 loop-holds : tie.Need-loop-holds Inv-loop μ-loop
-loop-holds c = (omega arith, omega arith, omega arith, λ d some. none-passed _ _ _ _ _ (omega arith))
+loop-holds c =
+    (omega arith, omega arith, omega (arith, c .if1 .left), omega arith, λ d some. none-passed _ _ _ _ _ (omega arith))
 
 loop-again : tie.Need-loop-again Inv-loop μ-loop
-loop-again c = let h = skipped c 1 (omega arith) in (omega arith, h .low, h .few, skipped c)
+loop-again c =
+    let h = skipped c 1 (omega arith) in
+    (omega arith, h .low, head (c .before) .loop .inv .2, h .few, skipped c)
 
 add-total : tie.Need-add-total Inv-loop μ-loop
 add-total c = let h = passed c 1 (omega arith) in omega (arith, h .few, h .low, near (search))
 
 loop-again-2 : tie.Need-loop-again-2 Inv-loop μ-loop
-loop-again-2 c = let h = passed c 1 (omega arith) in (omega (arith, near (search)), h .low, h .few, passed c)
+loop-again-2 c =
+    let h = passed c 1 (omega arith) in
+    let turn : tie.At-loop Inv-loop μ-loop = search in
+    (omega (arith, near (search)), h .low, omega (arith, turn .loop .inv .2), h .few, passed c)
 
 returns-7 : tie.Need-returns-7 Inv-loop μ-loop
-returns-7 c = λ d some h. all-passed _ _ _ _ _ (c .before .loop .inv .3 d some) (omega arith)
+returns-7 c = λ d some h. all-passed _ _ _ _ _ (c .before .loop .inv .4 d some) (omega arith)
 
 pub leaves-below-spec : {M : Type 1} → statement M
 leaves-below-spec =
@@ -123,6 +130,7 @@ leaves-below-spec =
     (tie.spec
     Inv-loop
     μ-loop
+    (λ c. λ d some h. absurd (omega arith))
     (search needs)
     (search needs)
     (search needs)
@@ -136,12 +144,10 @@ leaves-below-spec =
     loop-again
     (search needs)
     (λ c. λ d some h. absurd (omega arith))
-    (search needs)
+    (λ c. omega (arith, near (search)))
+    (λ c. omega (arith, near (search)))
     (λ c. λ d some h. absurd (omega arith))
-    (λ c. omega (arith, c .if3 .left))
-    (λ c. omega (arith, c .if3 .left))
-    (λ c. λ d some h. absurd (omega arith))
-    (λ c. let back : tie.Else3 Inv-loop μ-loop = search in omega (arith, back .if3 .left, near (search)))
+    (λ c. omega (arith, near (search)))
     (λ c. λ d some h. absurd (omega arith))
     (search needs)
     (search needs)
