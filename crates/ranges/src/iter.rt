@@ -1,6 +1,6 @@
-// The range of an archive whose keys ascend (rkyv's src/collections/btree/map/iter.rs). What is open, included or excluded is decided here, before a
-// node is read.
+// The range of an archive whose keys ascend (rkyv's src/collections/btree/map/iter.rs). Its bounds are numbers before a node is read.
 use crate::node::range_node;
+use ends::ends_of;
 use format::Bound;
 use format::Ends;
 use format::Layout;
@@ -11,41 +11,9 @@ ghost use lib.ListN.{length};
 ghost use Rattle.format.specs.Layout.{layoutOf, standard, nested};
 ghost use Rattle.format.specs.Entries.{listAt};
 ghost use Rattle.format.specs.Certify.{Ascending};
-ghost use Rattle.format.specs.Range.{matches, select, endsOf};
+ghost use Rattle.format.specs.Range.{matches, select};
 ghost use Rattle.format.specs.Readable.{Node};
 ghost use Rattle.format.specs.Written.{out, walked};
-
-// The keys that meet both bounds, as numbers. None is below an excluded 0; none is above an excluded largest key, which `greatest` never exceeds.
-fn ends_of(lower: Bound, upper: Bound) -> Ends
-    ensures { λ r. ⌜ r ≡ endsOf lower upper ⌝ }
-{
-    let greatest = match upper {
-        Bound::Unbounded => 0xffff_ffff_ffff_ffff,
-        Bound::Included(ub) => ub,
-        Bound::Excluded(ub) => {
-            if ub == 0 {
-                return Ends::Nothing;
-            }
-            ub - 1
-        }
-    };
-    let least = match lower {
-        Bound::Unbounded => 0,
-        Bound::Included(lb) => {
-            if greatest < lb {
-                return Ends::Nothing;
-            }
-            lb
-        }
-        Bound::Excluded(lb) => {
-            if greatest <= lb {
-                return Ends::Nothing;
-            }
-            lb + 1
-        }
-    };
-    Ends::Keys { least, greatest }
-}
 
 // What a range answers: the number written and the number matching.
 pub struct Ranged {

@@ -146,7 +146,7 @@ pub fn walk(archive: &[u8], layout: Layout, keys: &mut [u64], values: &mut [u64]
                 return WalkAnswer::Walked(0, 0);
             }
             let root = root_of(archive, layout);
-            let written = btree::map::visit(archive, layout, root, keys, values);
+            let written = walks::map::visit(archive, layout, root, keys, values);
             WalkAnswer::Walked(written, count)
         }
     }

@@ -1,4 +1,1 @@
-pub mod NodeAt
-pub mod Places
-pub mod Nodes
-pub mod Within
+mod Record

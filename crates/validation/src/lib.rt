@@ -1,3 +1,2 @@
-// The archive check (rkyv's src/validation/archive, and `verify` of src/collections/btree/map/mod.rs).
-mod archive;
+// The check of an archive (rkyv's `verify` in src/collections/btree/map/mod.rs).
 pub mod check;

@@ -14,8 +14,7 @@ use Rattle.format.specs.Laws.Read.Node.{as-leaf, as-inner, node-room, child-fal
 use Rattle.format.specs.Laws.Read.Written.{runs-none}
 use Rattle.ranges.specs.Taken.{ranged}
 use Rattle.btree.proofs.NextChild.{next-child}
-use Rattle.btree.proofs.Fills.{out-same}
-use Rattle.btree.proofs.Runs.{left-step, left-last, leaf-run}
+use Rattle.btree.proofs.Runs.{out-same, left-step, left-last, leaf-run}
 use Rattle.ranges.proofs.EntryByEntry.{pass-low, stop-past, one-fits}
 use Rattle.ranges.proofs.Ranges.{Fits, slot-there, slot-key, slot-taken, child-fits, leaf-fits}
 use Rattle.ranges.proofs.Ranges.{rest, at-child, rest-all, rest-more, rest-done, rest-ascends}

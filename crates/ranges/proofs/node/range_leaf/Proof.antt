@@ -12,8 +12,7 @@ use Rattle.format.specs.Certify.{Ascending}
 use Rattle.format.specs.Written.{out}
 use Rattle.format.specs.Laws.Read.Written.{runs-none}
 use Rattle.ranges.specs.Taken.{ranged}
-use Rattle.btree.proofs.Fills.{out-same}
-use Rattle.btree.proofs.Runs.{slots-more, leaf-step, leaf-done}
+use Rattle.btree.proofs.Runs.{out-same, slots-more, leaf-step, leaf-done}
 use Rattle.ranges.proofs.EntryByEntry.{stop-past, one-fits}
 use Rattle.ranges.proofs.Ranges.{slot-key, slot-taken, slot-passed, slots-ascend, slots-rest, slots-run}
 use Rattle.ranges.proofs.node.range_leaf.Statement.{statement}

@@ -4,9 +4,9 @@ use native.Mathlib.Omega.{arith}
 use lib.ListN.{length}
 use Prim.Native.Nat.{_-_}
 use Rattle.format.specs.Layout.{layoutOf, standard, recordSize, recordAlign}
-use Rattle.validation.specs.Subtree.{opened}
-use Rattle.validation.specs.declared.archive.SubtreeRange.{SubtreeRange}
-use Rattle.validation.proofs.Nodes.{archive-long, archive-short, archive-refused, archive-opened}
+use Rattle.subtrees.specs.Subtree.{opened}
+use Rattle.subtrees.specs.declared.archive.SubtreeRange.{SubtreeRange}
+use Rattle.validation.proofs.Record.{archive-long, archive-short, archive-refused, archive-opened}
 use borrow.Author.Needs.{needs}
 use Rattle.validation.proofs.check.check.Statement.{statement}
 use Rattle.validation.proofs.check.check.Tie as tie

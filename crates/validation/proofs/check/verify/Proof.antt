@@ -4,7 +4,7 @@ use mathlib.Core.Path.{_≡_, refl}
 use native.Mathlib.Omega.{arith}
 use Rattle.format.specs.Layout.{layoutOf, standard, pointer}
 use Rattle.format.specs.Bytes.{leAt}
-use Rattle.validation.proofs.Nodes.{root-none, count-differs, count-agrees, root-refused, root-differs, root-entries}
+use Rattle.validation.proofs.Record.{root-none, count-differs, count-agrees, root-refused, root-differs, root-entries}
 use borrow.Author.Needs.{needs}
 use Rattle.validation.proofs.check.verify.Statement.{statement}
 use Rattle.validation.proofs.check.verify.Tie as tie

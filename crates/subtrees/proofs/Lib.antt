@@ -1,0 +1,4 @@
+mod NodeAt
+pub mod Places
+mod Nodes
+mod Within
