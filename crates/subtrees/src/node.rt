@@ -77,7 +77,7 @@ fn check_leaf_node(
 }
 
 // What a field leads to, before an inner node's children are checked: a leaf's entries and end, or an inner node's position.
-enum Entered {
+pub enum Entered {
     Leaf(usize, Position),
     Inner(Position),
     Refused(Refusal),
@@ -94,7 +94,7 @@ fn entered_leaf(node: NodeAnswer) -> Entered
 }
 
 // Follows a field and reads the kind. A leaf is checked whole; of an inner node the first bytes stand in their place.
-fn enter_node(
+pub fn enter_node(
     archive: &[u8],
     layout: Layout,
     range: SubtreeRange,
@@ -130,7 +130,7 @@ fn child_field(layout: Layout, at: Position, i: usize) -> Position
 }
 
 // The children stand before the node, each after the one before it.
-fn check_inner_node(
+pub fn check_inner_node(
     archive: &[u8],
     layout: Layout,
     range: SubtreeRange,
@@ -175,25 +175,6 @@ fn check_inner_node(
 
 // The node that a field leads to, with the depth that is left before it is entered.
 fn check_node_rel_ptr(
-    archive: &[u8],
-    layout: Layout,
-    range: SubtreeRange,
-    depth: usize,
-    field: Position,
-) -> NodeAnswer
-    requires { ⌜ (layout .entries ≤ 15) × (range .end .0 ≤ length (now archive)) × (field .0 + pointer (layoutOf layout) ≤ length (now archive)) ⌝ }
-    ensures { λ r. ⌜ nodeOf r ≡ checkNode (layoutOf layout) (now (archive .entry)) (depth - 1) (range .end .0) (range .start .0) (field .0) ⌝ }
-{
-    match enter_node(archive, layout, range, depth, field) {
-        Entered::Refused(why) => NodeAnswer::Refused(why),
-        Entered::Leaf(count, end) => NodeAnswer::Entries(count, end),
-        Entered::Inner(at) => check_inner_node(archive, layout, range, depth, at),
-    }
-}
-
-// The same for the record's field. It calls `check_inner_node` itself, so that this one stays a function of its own in the compiled program and
-// `check_node_rel_ptr` becomes part of it: a leaf then takes no call. Without it an archive that is refused takes 1.2 to 1.3 times as long.
-pub fn check_root_rel_ptr(
     archive: &[u8],
     layout: Layout,
     range: SubtreeRange,

@@ -11,8 +11,10 @@ use subtrees::archive::PtrAnswer;
 use subtrees::archive::SubtreeRange;
 use subtrees::archive::in_subtree;
 use subtrees::archive::push_subtree_range;
+use subtrees::node::Entered;
 use subtrees::node::NodeAnswer;
-use subtrees::node::check_root_rel_ptr;
+use subtrees::node::check_inner_node;
+use subtrees::node::enter_node;
 use subtrees::node::refused_node;
 use subtrees::node::refused_ptr;
 ghost use mathlib.Core.Path.{_≡_};
@@ -50,7 +52,12 @@ fn verify(
         }
         return CheckAnswer::Refused(Refusal::EntriesLengthMismatch);
     }
-    let root = check_root_rel_ptr(archive, layout, range, depth, at);
+    // As in `check_node_rel_ptr`, which has one caller so: it becomes part of `check_inner_node` in the compiled program, and a leaf takes no call.
+    let root = match enter_node(archive, layout, range, depth, at) {
+        Entered::Refused(why) => NodeAnswer::Refused(why),
+        Entered::Leaf(entries, end) => NodeAnswer::Entries(entries, end),
+        Entered::Inner(node) => check_inner_node(archive, layout, range, depth, node),
+    };
     let NodeAnswer::Entries(entries, _) = root else {
         return refused_node(root);
     };
