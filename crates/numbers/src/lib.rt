@@ -39,9 +39,8 @@ fn inner_of(w: usize, e: usize) -> usize
     (8 + 16 * e + w * (e + 1) + 7) / 8 * 8
 }
 
-// The entries of an inner node in its place and of its children, where these are absent or leaves, the first where the range starts and each right
-// behind the one before it, as the crate writes them; else 0. So a leaf's place is known before its field is read. No call is left in it, as in
-// `quick_leaves`.
+// The entries of an inner node in its place and of its children, where these are absent or leaves one right behind the other from the start of the range
+// on, as the crate writes them; else 0. So a leaf's place is known before its field is read. No call is left in it, as in `quick_leaves`.
 fn leaves_below(archive: &[u8], w: usize, e: usize, ones: usize, start: usize, at: usize) -> usize
     requires { ⌜ Numbers w e ones × (start ≤ at) × (at + innerSize (numbered w e) ≤ length (now archive)) ⌝ }
     ensures { λ r. ⌜ ((d : ℕ) → 0 < d → 0 < r → Below (numbered w e) (now (archive .entry)) d start at r) ⌝ }

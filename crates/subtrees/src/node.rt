@@ -112,7 +112,6 @@ pub fn enter_node(
         return entered_leaf(refused_ptr(placed));
     };
     let from = at.0;
-    // The kind byte.
     match archive[from] {
         0 => entered_leaf(check_leaf_node(archive, layout, range, depth, at)),
         1 => Entered::Inner(at),

@@ -1,2 +1,1 @@
-// The check of an archive (rkyv's `verify` in src/collections/btree/map/mod.rs).
 pub mod check;

@@ -1,3 +1,2 @@
-// The walk of an archive that the check has accepted.
 pub mod map;
 mod quick;
