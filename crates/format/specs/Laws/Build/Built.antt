@@ -10,7 +10,7 @@ use lib.ListN.{length, replicate, length-append, length-replicate}
 use lib.Dec.{ltb}
 use borrow.Author.Tests.{le-leb, lt-ltb, eq-eqb}
 use Rattle.format.specs.declared.Entry.{Entry}
-use Rattle.format.specs.Layout.{Width, two, four, eight, bytes, Layout, pointer, recordSize, recordAlign, Limits, nested}
+use Rattle.format.specs.Layout.{Width, two, four, eight, bytes, Layout, signBits, pointer, innerSize, recordSize, recordAlign, Limits, nested}
 use Rattle.format.specs.Bytes.{leBytes}
 use Rattle.format.specs.RelPtr.{at, target}
 use Rattle.format.specs.Align.{zerosTo}
@@ -24,11 +24,14 @@ use Rattle.format.specs.TreeShape.{pairsOf, keysOf, flat, flatBranch, de
 use Rattle.format.specs.NodeRelation.{Holds, Valid}
 use Rattle.format.specs.Laws.Numbers.Align.{step-aligned}
 use Rattle.format.specs.Laws.Numbers.Bytes.{length-leBytes}
+use Rattle.format.specs.Laws.Numbers.Widths.{bytes-some}
 use Rattle.format.specs.Laws.Check.Complete.{pass, complete}
-use Rattle.format.specs.Laws.Build.Filling.{fill-flat, upper, room, fill-took, BranchDone, fill-done, fill-depth}
+use Rattle.format.specs.Weight.{upper, room}
+use Rattle.format.specs.Laws.Build.Filling.{fill-flat, fill-took, BranchDone, fill-done, fill-depth}
 use Rattle.format.specs.Laws.Build.Height.{Fitting, fitting}
 use Rattle.format.specs.Laws.Build.ReadBack.{tree-laid}
 use Rattle.format.specs.Laws.Build.NodeBytes.{length-offset, length-writeBranch, eightT, top-in}
+use Rattle.format.specs.Laws.Build.Near.{TreeNear, BranchNear, own-most, top-own}
 use Rattle.format.specs.Laws.Build.BytesAt.{BytesAt, stands-here, stands-end, stands-as, read-back, wide, offset-back}
 
 rises-from : (k : ℕ) (l : List Entry) → ascendsFrom k l ≡ risesFrom k (keysOf (pairsOf l))
@@ -91,15 +94,14 @@ module _ (L : Layout) (M : Limits) (s : List ℕ) where
 
 -- ---- where the archive's parts stand
 
+pub behind-length : (L : Layout) (h n : ℕ) (b : Branch) → length (behind L h b n) ≡ zerosTo (firstAlign L b) h + lengthBranch L b + 2 * pointer L
+unfolding behind
+behind-length L h n b = simp (length-append, length-replicate, length-offset, length-leBytes, length-writeBranch) (omega arith)
+
 pointer-divides : (w : Width) (x : ℕ) → x % 8 ≡ 0 → x % bytes w ≡ 0
 pointer-divides two x h = omega arith
 pointer-divides four x h = omega arith
 pointer-divides eight x h = h
-
-pointer-pos : (w : Width) → 0 < bytes w
-pointer-pos two = omega arith
-pointer-pos four = omega arith
-pointer-pos eight = omega arith
 
 module _ (L : Layout) where
   module _ (front : List ℕ) (b : Branch) (n : ℕ) where
@@ -129,75 +131,67 @@ module _ (L : Layout) where
     unfolding fp p
     length-fp = simp (length-append, length-replicate)
 
-    length-W : WfBranch L b → length W ≡ lengthBranch L b
+    length-W : length W ≡ lengthBranch L b
     unfolding W
-    length-W w = length-writeBranch L b p
+    length-W = length-writeBranch L b p
 
     length-R : length R ≡ pointer L
     unfolding R
     length-R = length-offset L (p + lengthBranch L b) (childOf L b p)
 
-    length-C : length C ≡ pointer L
-    unfolding C
-    length-C = length-leBytes (pointer L) n
-
-    length-s : WfBranch L b → length s ≡ p + lengthBranch L b + pointer L + pointer L
-    length-s w = ap length s-parts ∙ simp length-append (omega (arith, length-fp, length-W w, length-R, length-C))
+    length-s : length s ≡ p + lengthBranch L b + pointer L + pointer L
+    unfolding s p
+    length-s = length-append front (behind L (length front) b n) ∙ omega (arith, behind-length L (length front) n b)
 
     tree-stands : BytesAt s p W
     tree-stands = stands-as (sym s-parts) length-fp (stands-here fp W (R ++ C))
 
-    root-stands : WfBranch L b → BytesAt s (p + lengthBranch L b) R
-    root-stands w =
-        stands-as (append-assoc fp W (R ++ C) ∙ sym s-parts) (length-append fp W ∙ omega (arith, length-fp, length-W w)) (stands-here (fp ++ W) R C)
+    root-stands : BytesAt s (p + lengthBranch L b) R
+    root-stands = stands-as (append-assoc fp W (R ++ C) ∙ sym s-parts) (length-append fp W ∙ omega (arith, length-fp, length-W)) (stands-here (fp ++ W) R C)
 
-    count-stands : WfBranch L b → BytesAt s (p + lengthBranch L b + pointer L) C
-    count-stands w =
+    count-stands : BytesAt s (p + lengthBranch L b + pointer L) C
+    count-stands =
         stands-as (append-assoc (fp ++ W) R C ∙ append-assoc fp W (R ++ C) ∙ sym s-parts)
-        (length-append (fp ++ W) R ∙ ap (λ (x : ℕ). x + length R) (length-append fp W) ∙ omega (arith, length-fp, length-W w, length-R))
+        (length-append (fp ++ W) R ∙ ap (λ (x : ℕ). x + length R) (length-append fp W) ∙ omega (arith, length-fp, length-W, length-R))
         (stands-end ((fp ++ W) ++ R) C)
 
-    root-is : WfBranch L b → root L s ≡ p + lengthBranch L b
+    root-is : root L s ≡ p + lengthBranch L b
     unfolding root
-    root-is w = omega (arith, length-s w)
+    root-is = omega (arith, length-s)
 
-    recorded-is : WfBranch L b → n < 256 ^ pointer L → recorded L s ≡ n
+    recorded-is : n < 256 ^ pointer L → recorded L s ≡ n
     unfolding recorded C
-    recorded-is w h = rw (root-is w) (read-back (pointer L) n h (count-stands w))
-
-  -- The archive's length.
-  pub archive-length : (front : List ℕ) (b : Branch) (n : ℕ) → WfBranch L b
-      → length (front ++ behind L (length front) b n) ≡ start L b (length front) + lengthBranch L b + pointer L + pointer L
-  unfolding s p
-  archive-length front b n w = length-s front b n w
+    recorded-is h = rw root-is (read-back (pointer L) n h count-stands)
 
 module _ (L : Layout) (M : Limits) (front : List ℕ) where
   -- The archive of a tree that the layout can hold.
-  tree-sure : (t : Tree) (n : ℕ) → 1 < M .depth → 0 < L .entries → L .entries < 65536 → WfT L t → depthT t ≤ nested M → length (flat t) ≡ suc n
+  tree-sure : (t : Tree) (n : ℕ) → 1 < M .depth → L .entries < 65536 → WfT L t → depthT t ≤ nested M → length (flat t) ≡ suc n
       → suc n < 256 ^ pointer L
-      → rises (keysOf (flat t)) ≡ true → 2 * lengthT L t ≤ 256 ^ pointer L → M .longest < 2 ^ 63 → length (s L front (someB t) (suc n)) ≤ M .longest
+      → rises (keysOf (flat t)) ≡ true → TreeNear L (2 ^ signBits (L .width)) t (start L (someB t) (length front)) → innerSize L ≤ 2 ^ signBits (L .width)
+      → M .longest < 2 ^ 63 → length (s L front (someB t) (suc n)) ≤ M .longest
       → Sure L M (s L front (someB t) (suc n)) n (flat t)
   unfolding p W R
-  tree-sure t n deep some few w hd hn hw ha far short small =
+  tree-sure t n deep few w hd hn hw ha far near short small =
       let b = someB t in
       let a = s L front b (suc n) in
       let q = start L b (length front) in
-      let er = root-is L front b (suc n) w in
+      let er = root-is L front b (suc n) in
       let e8 = eightT L t in
       let h8 : q % 8 ≡ 0 = step-aligned 8 (length front) (omega arith) in
       let i = top-in L t q in
-      let T = tree-laid L a t (nested M) q 0 (root L a) few w hd (omega arith) (omega arith) h8 (omega (arith, length-s L front b (suc n) w))
-      (tree-stands L front b (suc n)) in
-      let (et, ea) = offset-back L a (q + lengthT L t) (record { 0 = topT L t q }) (omega arith) (omega arith) (root-stands L front b (suc n) w) in
+      let T = tree-laid L a t (nested M) q 0 (root L a) few w hd (omega arith) (omega arith) h8
+      (far, omega (arith, length-s L front b (suc n))) (tree-stands L front b (suc n)) in
+      let (et, ea) = offset-back L a (q + lengthT L t) (record { 0 = topT L t q }) (omega arith) (omega (arith, top-own L t q, own-most L t))
+      (root-stands L front b (suc n)) in
       record {
         recorded-ok =
             record {
               small = small;
-              fits = omega (arith, length-s L front b (suc n) w);
+              fits = omega (arith, length-s L front b (suc n));
               aligned = pointer-divides (L .width) (root L a) (omega arith);
               enters = deep;
             };
-        count = recorded-is L front b (suc n) w hw;
+        count = recorded-is L front b (suc n) hw;
         pos = topT L t q;
         leads = rw er et;
         valid = record { holds = subst (λ (x : ℕ). Holds L a (nested M) 0 (root L a) (topT L t q) x) (T .many ∙ hn) (T .holds) };
@@ -212,26 +206,27 @@ module _ (L : Layout) (M : Limits) (front : List ℕ) where
     pub certified : certify L M (archive L front es) ≡ accepted (length es) stop
     pub gives : pairsOf (list L M (archive L front es)) ≡ es
 
-  branch-sure : (b : Branch) (es : List KeyValue) (n : ℕ) → There b → 1 < M .depth → 0 < L .entries → L .entries < 65536 → WfBranch L b
+  branch-sure : (b : Branch) (es : List KeyValue) (n : ℕ) → There b → 1 < M .depth → L .entries < 65536 → WfBranch L b
       → depthBranch b ≤ nested M → flatBranch b ≡ es
-      → length es ≡ suc n → suc n < 256 ^ pointer L → rises (keysOf es) ≡ true → 2 * lengthBranch L b ≤ 256 ^ pointer L → M .longest < 2 ^ 63
+      → length es ≡ suc n → suc n < 256 ^ pointer L → rises (keysOf es) ≡ true
+      → BranchNear L (2 ^ signBits (L .width)) b (start L b (length front)) → innerSize L ≤ 2 ^ signBits (L .width) → M .longest < 2 ^ 63
       → length (s L front b (suc n)) ≤ M .longest → Sure L M (s L front b (suc n)) n es
-  branch-sure noneB es n th deep some few w hd ef hn hw ha far short small = absurd th
-  branch-sure (someB t) es n th deep some few w hd ef hn hw ha far short small =
+  branch-sure noneB es n th deep few w hd ef hn hw ha far near short small = absurd th
+  branch-sure (someB t) es n th deep few w hd ef hn hw ha far near short small =
       subst (λ (x : List KeyValue). Sure L M (s L front (someB t) (suc n)) n x) ef
-      (tree-sure t n deep some few w hd (ap length ef ∙ hn) hw (ap (λ (l : List KeyValue). rises (keysOf l)) ef ∙ ha) far short small)
+      (tree-sure t n deep few w hd (ap length ef ∙ hn) hw (ap (λ (l : List KeyValue). rises (keysOf l)) ef ∙ ha) far near short small)
 
   -- No entries.
   pub built-none : 1 < M .depth → length (archive L front []) ≤ M .longest → Built []
   unfolding archive treeOf s p
   built-none deep small =
       let a = s L front noneB 0 in
-      let er = root-is L front noneB 0 tt in
+      let er = root-is L front noneB 0 in
       let big = wide (L .width) in
-      let al : start L noneB (length front) % pointer L ≡ 0 = step-aligned (pointer L) (length front) (pointer-pos (L .width)) in
+      let al : start L noneB (length front) % pointer L ≡ 0 = step-aligned (pointer L) (length front) (bytes-some (L .width)) in
       let er′ : root L a ≡ start L noneB (length front) = er ∙ add-zero _ in
-      let R : Recorded L M a = record { small = small; fits = omega (arith, length-s L front noneB 0 tt); aligned = rw er′ al; enters = deep } in
-      let (ec, el) = sure-empty L M a R (recorded-is L front noneB 0 tt (omega arith)) in
+      let R : Recorded L M a = record { small = small; fits = omega (arith, length-s L front noneB 0); aligned = rw er′ al; enters = deep } in
+      let (ec, el) = sure-empty L M a R (recorded-is L front noneB 0 (omega arith)) in
       record { stop = 0; certified = ec; gives = ap pairsOf el }
 
 nil-of : (l : List KeyValue) → length l ≡ 0 → l ≡ []
@@ -242,7 +237,7 @@ nil-of (x ∷ l) e = absurd (omega arith)
 pub record TreeOf (L : Layout) (es : List KeyValue) : Type 0 where
   pub some : 0 < L .entries
   pub fit : Fitting L some (length es)
-  pub done : BranchDone L (fit .above) (upper L (fit .above)) (room L (fit .above)) (lastLevel L (length es)) (fill L (fit .above) (lastLevel L (length es)) es)
+  pub done : BranchDone L (fit .above) (lastLevel L (length es)) es (fill L (fit .above) (lastLevel L (length es)) es)
   pub is : treeOf L es ≡ fill L (fit .above) (lastLevel L (length es)) es .branch
 
 module _ (L : Layout) where
@@ -253,13 +248,13 @@ module _ (L : Layout) where
       let e₁ : height L (length (e ∷ es)) - 1 ≡ h = omega arith in
       ap (λ (x : ℕ). fill L x (lastLevel L (length (e ∷ es))) (e ∷ es) .branch) e₁
 
-  pub tree-of : (e : KeyValue) (es : List KeyValue) → 0 < L .entries → AllFit (e ∷ es) → TreeOf L (e ∷ es)
-  tree-of e es some fit =
+  pub tree-of : (e : KeyValue) (es : List KeyValue) → 0 < L .entries → TreeOf L (e ∷ es)
+  tree-of e es some =
       let F = fitting L some (length (e ∷ es)) (omega arith) in
       record {
         some = some;
         fit = F;
-        done = fill-done L (F .above) (lastLevel L (length (e ∷ es))) (e ∷ es) some fit (omega (arith, F .last-is, F .last-room));
+        done = fill-done L (F .above) (lastLevel L (length (e ∷ es))) (e ∷ es) some (omega (arith, F .last-is, F .last-room));
         is = tree-is e es (F .above) (F .height-is);
       }
 
@@ -276,23 +271,22 @@ module _ (L : Layout) where
       ap flatBranch (T .is) ∙ sym (append-nil (flatBranch (fill L h m es .branch)))
       ∙ ap (λ (l : List KeyValue). flatBranch (fill L h m es .branch) ++ l) (sym (none-left es (T .fit))) ∙ fill-flat L h m es
 
-  pub tree-wf : {es : List KeyValue} (T : TreeOf L es) → WfBranch L (treeOf L es) × There (treeOf L es)
-  tree-wf {es} T =
-      subst (λ (b : Branch). WfBranch L b × There b) (sym (T .is)) (T .done .wf, T .done .starts (omega (arith, T .fit .last-pos)))
+  pub tree-there : (e : KeyValue) (es : List KeyValue) → 0 < L .entries → There (treeOf L (e ∷ es))
+  tree-there e es some = let T = tree-of e es some in subst There (sym (T .is)) (T .done .starts (omega (arith, T .fit .last-pos)))
 
   -- One entry or more.
-  pub built-some : (M : Limits) (front : List ℕ) (e : KeyValue) (es : List KeyValue) (T : TreeOf L (e ∷ es)) → 1 < M .depth → L .entries < 65536
-      → rises (keysOf (e ∷ es)) ≡ true
-      → height L (length (e ∷ es)) ≤ nested M → length (e ∷ es) < 256 ^ pointer L → 2 * lengthBranch L (treeOf L (e ∷ es)) ≤ 256 ^ pointer L
-      → M .longest < 2 ^ 63
-      → length (archive L front (e ∷ es)) ≤ M .longest → Built L M front (e ∷ es)
+  pub built-some : (M : Limits) (front : List ℕ) (e : KeyValue) (es : List KeyValue) → 0 < L .entries → AllFit (e ∷ es) → 1 < M .depth
+      → L .entries < 65536 → rises (keysOf (e ∷ es)) ≡ true → height L (length (e ∷ es)) ≤ nested M → length (e ∷ es) < 256 ^ pointer L
+      → BranchNear L (2 ^ signBits (L .width)) (treeOf L (e ∷ es)) (start L (treeOf L (e ∷ es)) (length front)) → innerSize L ≤ 2 ^ signBits (L .width)
+      → M .longest < 2 ^ 63 → length (archive L front (e ∷ es)) ≤ M .longest → Built L M front (e ∷ es)
   unfolding archive s
-  built-some M front e es T deep few asc hd hw far short small =
+  built-some M front e es some fit deep few asc hd hw far near short small =
       let all = e ∷ es in
-      let (wf, there-is) = tree-wf T in
+      let T = tree-of e es some in
+      let wf : WfBranch L (treeOf L all) = subst (WfBranch L) (sym (T .is)) (T .done .wf fit) in
       let m = lastLevel L (length all) in
       let dp = fill-depth L (T .fit .above) m all in
       let ed : depthBranch (treeOf L all) ≡ depthBranch (fill L (T .fit .above) m all .branch) = ap depthBranch (T .is) in
-      let S = branch-sure L M front (treeOf L all) all (length es) there-is deep (T .some) few wf (omega (arith, T .fit .height-is))
-      (tree-flat T) refl hw asc far short small in
+      let S = branch-sure L M front (treeOf L all) all (length es) (tree-there e es some) deep few wf (omega (arith, T .fit .height-is))
+      (tree-flat T) refl hw asc far near short small in
       record { stop = _; certified = sure L M (archive L front all) (length es) all S; gives = ap pairsOf (sure-list L M (archive L front all) S) ∙ S .gives }

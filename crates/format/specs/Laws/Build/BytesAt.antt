@@ -114,7 +114,7 @@ absent-fits h f big l =
     ∙ stored-given h f (f + 1) (pos 1) (offset-ahead f (f + 1) (omega arith) ∙ ap (λ (d : ℕ). fitSigned 63 15 (pos d)) e ∙ fits-gives 63 15 (pos 1) (lit≤ tt))
     ∙ fits-gives h 16 (pos 1) big
 
-bits-least : (w : Width) → 1 < 2 ^ signBits w
+pub bits-least : (w : Width) → 1 < 2 ^ signBits w
 bits-least two = lit≤ tt
 bits-least four = lit≤ tt
 bits-least eight = lit≤ tt
@@ -126,7 +126,7 @@ bits-most eight = lit≤ tt
 
 module _ (L : Layout) (s : List ℕ) where
   -- A field that is written so leads back to q, and is not absent.
-  pub offset-back : (f : ℕ) (q : Position) → q .0 < f → 2 * (f - q .0) ≤ 256 ^ pointer L → BytesAt s f (offsetBytes L f (At q))
+  pub offset-back : (f : ℕ) (q : Position) → q .0 < f → f - q .0 ≤ 2 ^ signBits (L .width) → BytesAt s f (offsetBytes L f (At q))
       → (target L s f ≡ at (q .0)) × (absent L s f ≡ false)
   unfolding target absent
   offset-back f q h far a₀ =

@@ -8,7 +8,8 @@ use lib.Dec.{ltb}
 use borrow.Author.Tests.{ltb-true, ltb-false}
 use Rattle.format.specs.Layout.{Layout}
 use Rattle.format.specs.Build.{logFrom, height, lastLevel}
-use Rattle.format.specs.Laws.Build.Filling.{upper, room, full}
+use Rattle.format.specs.Weight.{upper, room}
+use Rattle.format.specs.Laws.Build.Filling.{full}
 
 pos-div : (n b : ℕ) → 0 < b → b ≤ n → 0 < n / b
 pos-div n b h₀ h = by (n / b) (div-add-mod' n b)
@@ -48,7 +49,7 @@ module _ (L : Layout) (some : 0 < L .entries) where
           rw (eb, logFrom) (level-up (logFrom L fuel (n / suc (L .entries))) n
           (rec (pos-div n (suc (L .entries)) (omega arith) (ltb-false _ _ eb)) (omega (arith, div-lt-self {n = n} {k = suc (L .entries)} h₀ (omega arith)))))
 
-  power : (h : ℕ) → suc (L .entries) ^ h ≡ suc (upper L h)
+  pub power : (h : ℕ) → suc (L .entries) ^ h ≡ suc (upper L h)
   power zero = pow-zero _
   power (suc h) = pow-succ' (suc (L .entries)) h ∙ rw (power h) (omega arith)
 

@@ -7,14 +7,14 @@ use native.Mathlib.Omega.{arith}
 use lib.ListN.{length, getD, replicate, length-append}
 use borrow.Author.Tests.{ne-eqb}
 use Rattle.format.specs.declared.Entry.{Entry}
-use Rattle.format.specs.Layout.{Layout, pointer, valuesFrom, headSize, leafSize, innerSize}
+use Rattle.format.specs.Layout.{signBits, Layout, pointer, valuesFrom, headSize, leafSize, innerSize}
 use Rattle.format.specs.Bytes.{leBytes}
 use Rattle.format.specs.RelPtr.{absent}
 use Rattle.format.specs.Node.{leaf, inner, kindOf, child, kind, sizeAt, leafCount, slot}
 use Rattle.format.specs.Entries.{slots, listChild, listChildren, listBody, listAt}
 use Rattle.format.specs.Certify.{hollow, anyChild, anyChildren, anyBody, hollowAt}
 use Rattle.format.specs.Tree.{column, head, leafBytes, innerBytes, Tree, leafT, innerT, Branches, writeT, writeBranches, writeBranch, KeyValue}
-use Rattle.format.specs.Tree.{lastB, moreB, Branch, noneB, someB, lengthT, lengthBranches, lengthBranch, topT, slotsOf, greaterOf}
+use Rattle.format.specs.Tree.{lastB, moreB, Branch, noneB, someB, lengthT, lengthBranches, lengthBranch, topT, childOf, slotsOf, greaterOf}
 use Rattle.format.specs.TreeShape.{pairOf, pairsOf, flat, flatBranches, flatBranch, depthT, depthBranches, depthBranch, own, Fit, AllFit, There}
 use Rattle.format.specs.TreeShape.{Begins, WfT, WfBranches, WfBranch, fieldB, fieldsB}
 use Rattle.format.specs.NodeRelation.{ChildOk, gone, there, ChildrenOk, last, more, leafOk, innerOk, Holds}
@@ -22,6 +22,7 @@ use Rattle.format.specs.Laws.Numbers.Bytes.{length-leBytes}
 use Rattle.format.specs.Laws.Build.NodeBytes.{length-column, length-head, length-fieldB, innerPad, inner-fields, length-writeBranch, top-in}
 use Rattle.format.specs.Laws.Build.NodeBytes.{length-writeBranches, eightBranches, eightBranch}
 use Rattle.format.specs.Laws.Build.BytesAt.{BytesAt, stands-left, stands-next, first-byte, read-back, wide, offset-back, marked}
+use Rattle.format.specs.Laws.Build.Near.{Near, FieldsNear, TreeNear, BranchesNear, BranchNear, inner-room}
 
 pairs-append : (a b : List Entry) → pairsOf (a ++ b) ≡ pairsOf a ++ pairsOf b
 pairs-append [] b = refl
@@ -139,12 +140,12 @@ module _ (L : Layout) (s : List ℕ) where
             (anyBody L s (hollowAt L s d) (b + lengthBranches L ks) (kind L s (b + lengthBranches L ks))) (rw ek (R .present (w .2))) (rw ek (R .solid));
       }
 
-  branch-laid : (t : Tree) (d b lo hi f : ℕ) → TreeRead t d b lo hi → b + lengthT L t ≤ f → (2 * f ≤ 256 ^ pointer L + 2 * b) × (f < 2 ^ 63)
+  branch-laid : (t : Tree) (d b lo hi f : ℕ) → TreeRead t d b lo hi → b + lengthT L t ≤ f → Near L (2 ^ signBits (L .width)) f (childOf L (someB t) b)
       → BytesAt s f (fieldB L (someB t) b f) → BranchRead (someB t) d b lo hi f
   unfolding listChild anyChild
   branch-laid t d b lo hi f R hf far a =
       let i = top-in L t b in
-      let (et, ea) = offset-back L s f (record { 0 = topT L t b }) (omega arith) (omega arith) a in
+      let (et, ea) = offset-back L s f (record { 0 = topT L t b }) (far .0) (omega (arith, far .1)) a in
       record {
         n = R .n;
         stop = b + lengthT L t;
@@ -193,7 +194,7 @@ module _ (L : Layout) (s : List ℕ) where
     unfolding kind
 
     pub tree-laid : (t : Tree) (d b lo hi : ℕ) → L .entries < 65536 → WfT L t → depthT t ≤ d → lo ≤ b → b + lengthT L t ≤ hi → b % 8 ≡ 0
-        → (2 * lengthT L t ≤ 256 ^ pointer L) × (b + lengthT L t < 2 ^ 63)
+        → TreeNear L (2 ^ signBits (L .width)) t b × (b + lengthT L t < 2 ^ 63)
         → BytesAt s b (writeT L t b) → TreeRead t d b lo hi
     tree-laid (leafT es) zero b lo hi small w hd hl hh h8 far a = absurd (omega arith)
     tree-laid (leafT es) (suc d) b lo hi small w hd hl hh h8 far a = leaf-laid es d b lo hi small w hl hh h8 a
@@ -207,32 +208,36 @@ module _ (L : Layout) (s : List ℕ) where
         stands-bytes (inner-fields L ks b p (w .0)) (stands-next (writeBranches L ks b) (ap (λ (x : ℕ). b + x) (length-writeBranches L ks b)) a) in
         let (e1, c, r) = head-at L s p 1 (own ks) (fs ++ pad) a₁ in
         inner-laid ks d b lo hi w hl (omega arith) h8 (ap kindOf e1)
-        (branches-laid ks d b lo p (L .entries) 0 (p + headSize L) (omega arith) small (w .1) (w .0) (omega arith) hl (omega arith) h8 (omega arith) c
+        (branches-laid ks d b lo p (L .entries) 0 (p + headSize L) (omega arith) small (w .1) (w .0) (omega arith) hl (omega arith) h8
+        (far .0, omega (arith, far .1, inner-room L)) c
         (stands-left fs pad r) (stands-left (writeBranches L ks b) node a))
 
     branches-laid : (ks : Branches) (d b lo p k i f : ℕ) → f ≡ child L p i → L .entries < 65536 → WfBranches L ks → length (own ks) ≡ k
         → depthBranches ks ≤ d → lo ≤ b → b + lengthBranches L ks ≤ p → b % 8 ≡ 0
-        → (2 * (f + pointer L * k) ≤ 256 ^ pointer L + 2 * b) × (f + pointer L * k < 2 ^ 63) → Columns L s p i k (own ks)
+        → (BranchesNear L (2 ^ signBits (L .width)) ks b × FieldsNear L (2 ^ signBits (L .width)) ks b f) × (f + pointer L * k < 2 ^ 63)
+        → Columns L s p i k (own ks)
         → BytesAt s f (fieldsB L ks b f) → BytesAt s b (writeBranches L ks b) → BranchesRead ks d b lo p k i
     branches-laid (lastB x) d b lo p zero i f ef small w ek hd hl hh h8 far c af ab =
-        last-laid x d b lo p i (subst (λ (y : ℕ). BranchRead x d b lo p y) ef (branch-laid′ x d b lo p f small w hd hl hh (omega arith) h8 (omega arith) af ab))
+        last-laid x d b lo p i (subst (λ (y : ℕ). BranchRead x d b lo p y) ef
+        (branch-laid′ x d b lo p f small w hd hl hh (omega arith) h8 (far .0, omega (arith, far .1)) af ab))
     branches-laid (lastB x) d b lo p (suc k) i f ef small w ek hd hl hh h8 far c af ab = absurd (omega arith)
     branches-laid (moreB x e ks) d b lo p zero i f ef small w ek hd hl hh h8 far c af ab = absurd (omega arith)
     branches-laid (moreB x e ks) d b lo p (suc k) i f ef small w ek hd hl hh h8 far c af ab =
         let R : BranchRead x d b lo p (child L p i) = subst (λ (y : ℕ). BranchRead x d b lo p y) ef
-        (branch-laid′ x d b lo p f small (w .0) (omega arith) hl (omega arith) (omega arith) h8 (omega arith) (stands-left (fieldB L x b f) _ af)
+        (branch-laid′ x d b lo p f small (w .0) (omega arith) hl (omega arith) (omega arith) h8 ((far .0 .0 .0, far .0 .1 .0), omega (arith, far .1))
+        (stands-left (fieldB L x b f) _ af)
         (stands-left (writeBranch L x b) (writeBranches L ks (b + lengthBranch L x)) ab)) in
         let e8 = eightBranch L x in
         let mv = R .moves in
         more-laid x e ks d b lo p k i R (w .1) c
         (branches-laid ks d (b + lengthBranch L x) (R .stop) p k (suc i) (f + pointer L) (omega arith) small (w .2) (omega arith) (omega arith) mv
-        (omega arith) (omega arith) (omega arith)
+        (omega arith) (omega arith) ((far .0 .0 .1, far .0 .1 .1), omega (arith, far .1))
         (cols-next L s p i k e (own ks) c) (stands-next (fieldB L x b f) (ap (λ (y : ℕ). f + y) (length-fieldB L x b f)) af)
         (stands-next (writeBranch L x b) (ap (λ (y : ℕ). b + y) (length-writeBranch L x b)) ab))
 
     branch-laid′ : (k : Branch) (d b lo hi f : ℕ) → L .entries < 65536 → WfBranch L k → depthBranch k ≤ d → lo ≤ b → b + lengthBranch L k ≤ hi
-        → hi ≤ f → b % 8 ≡ 0 → (2 * f ≤ 256 ^ pointer L + 2 * b) × (f < 2 ^ 63)
+        → hi ≤ f → b % 8 ≡ 0 → (BranchNear L (2 ^ signBits (L .width)) k b × Near L (2 ^ signBits (L .width)) f (childOf L k b)) × (f < 2 ^ 63)
         → BytesAt s f (fieldB L k b f) → BytesAt s b (writeBranch L k b) → BranchRead k d b lo hi f
     branch-laid′ noneB d b lo hi f small w hd hl hh hf h8 far af ab = none-laid d b lo hi f hl (far .1) af
     branch-laid′ (someB t) d b lo hi f small w hd hl hh hf h8 far af ab =
-        branch-laid t d b lo hi f (tree-laid t d b lo hi small w hd hl hh h8 (omega arith) ab) (omega arith) far af
+        branch-laid t d b lo hi f (tree-laid t d b lo hi small w hd hl hh h8 (far .0 .0, omega (arith, far .1)) ab) (omega arith) (far .0 .1) af

@@ -14,8 +14,9 @@ use Rattle.format.specs.Tree.{Slot, Branch, noneB, someB, KeyValue}
 use Rattle.format.specs.Build.{logFrom, Filled, closed, fillBranches, fill, height, lastLevel, treeOf, recordBytes, behind, archive}
 use Rattle.format.specs.Serialize.{State, climb, transit, run, closeLast, closeInners, serialize, streamed, Agrees}
 use Rattle.format.specs.TreeShape.{There}
-use Rattle.format.specs.Laws.Build.Built.{tree-is, none-left}
-use Rattle.format.specs.Laws.Build.Filling.{upper, room, fill-took}
+use Rattle.format.specs.Laws.Build.Built.{tree-is, none-left, tree-there}
+use Rattle.format.specs.Weight.{upper, room}
+use Rattle.format.specs.Laws.Build.Filling.{fill-took}
 use Rattle.format.specs.Laws.Build.Height.{fitting}
 use Rattle.format.specs.Laws.Build.LoopLastLevel.{leaf-full, leaf-last, last-small, Ends, ends-all}
 use Rattle.format.specs.Laws.Build.LoopInner.{extraLevel, one-extra, left-pos, ready, done, shut, shut-done, comes-to, Writes, inner-writes}
@@ -55,14 +56,6 @@ module _ (L : Layout) where
       let a = tree-writes some l [] m 0 m es p [] (left-pos m 0 m pos (zero-add m)) (omega arith) in
       let el : l + extraLevel m ≡ suc l = ap (λ (i : ℕ). l + i) (one-extra m pos) ∙ omega arith in
       (a .count, subst (λ (i : ℕ). TurnsTo L m (ready L [] i 0 es p []) (done L (a .count) (fill L (suc l) m es) p [])) el (a .leads))
-
-  fill-there : (h m : ℕ) (es : List KeyValue) → 0 < m → There (fill L h m es .branch)
-  unfolding fill
-  fill-there zero zero es pos = absurd (not-suc-le-zero pos)
-  fill-there zero (suc m) es pos = tt
-  fill-there (suc zero) zero es pos = tt
-  fill-there (suc zero) (suc m) es pos = tt
-  fill-there (suc (suc h)) m es pos = tt
 
 module _ (L : Layout) (some : 0 < L .entries) where
   finished : (c : ℕ) (r : Filled) (p : ℕ) (t : State) → r .rest ≡ [] → t ≡ done L c r p [] → let u = closeLast L (t .openLeaf) t in
@@ -137,11 +130,6 @@ module _ (L : Layout) (some : 0 < L .entries) where
       start₁ : List (List Slot) → State
       start₁ x = record { openLeaf = []; openInners = x; childPos = Absent; leafEntries = 0; iter = e ∷ es; pos = p; bytes = []; panics = false }
 
-  pub tree-there : (e : KeyValue) (es : List KeyValue) → There (treeOf L (e ∷ es))
-  tree-there e es =
-      let F = fitting L some (length (e ∷ es)) (omega arith) in
-      subst There (sym (tree-is L e es (F .above) (F .height-is))) (fill-there L (F .above) (lastLevel L (length (e ∷ es))) (e ∷ es) (F .last-pos))
-
   archive-as : (header : List ℕ) (n : ℕ) (b : Branch) (t : State) → There b → Agrees L t b (length header + zerosTo nodeAlign (length header))
       → header ++ (replicate (zerosTo nodeAlign (length header)) 0 ++ (t .bytes ++ recordBytes L (t .pos) (t .childPos) n))
       ≡ header ++ behind L (length header) b n
@@ -158,7 +146,7 @@ module _ (L : Layout) (some : 0 < L .entries) where
   streamed-archive header [] = refl
   streamed-archive header (e ∷ es) =
       let p = length header + zerosTo nodeAlign (length header) in
-      archive-as header (length (e ∷ es)) (treeOf L (e ∷ es)) (serialize L (e ∷ es) p) (tree-there e es) (serialize-agrees e es p)
+      archive-as header (length (e ∷ es)) (treeOf L (e ∷ es)) (serialize L (e ∷ es) p) (tree-there L e es some) (serialize-agrees e es p)
 
   -- The crate's loop meets no `unwrap` of nothing.
   pub never-panics : (es : List KeyValue) (p : ℕ) → serialize L es p .panics ≡ false

@@ -22,6 +22,10 @@ pub second-fails : (x y : Bool) → y ≡ false → x && y ≡ false
 second-fails true y e = e
 second-fails false y e = refl
 
+pub second-passes : (x y : Bool) → y ≡ true → x && y ≡ x
+second-passes true y e = e
+second-passes false y e = refl
+
 pub not-passed : (x : Bool) → (x ≡ true → ⊥) → x ≡ false
 not-passed true h = absurd (h refl)
 not-passed false h = refl

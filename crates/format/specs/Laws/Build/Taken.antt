@@ -1,0 +1,129 @@
+-- What a build takes is what 24, 10 to 14 and 16 let through, over every layout, and what the output then is. Assumes nothing.
+use Prim.Native.Nat.{ℕ, _+_, _≤_}
+use mathlib.Core.Path.{_≡_, refl, sym, ap, ap₂, _∙_}
+use mathlib.Core.Bool.{Bool, true, false}
+use mathlib.Core.List.{List, _++_}
+use native.Mathlib.Omega.{arith}
+use lib.ListN.{length, take, drop, length-append}
+use lib.Seq.{sets-eq, length-take-le, take-at}
+use lib.Dec.{leb, eqb}
+use borrow.Author.Tests.{leb-true, eqb-true, le-leb, eq-eqb}
+use Rattle.format.specs.Layout.{Layout}
+use Rattle.format.specs.Refusal.{Answer, gives, refuses, provided}
+use Rattle.format.specs.Offsets.{archiveEmplaces}
+use Rattle.format.specs.Build.{treeOf, start, behind, archive, pairs, rises, entriesInRange, build, outBy, outAfter}
+use Rattle.format.specs.Built.{Taken}
+use Rattle.format.specs.Laws.Numbers.Tests.{and-true}
+use Rattle.format.specs.Laws.Build.Given.{length-pairs}
+
+-- ---- one test after another
+
+pub provided-inv : {A : Type 0} (b : Bool) (n : ℕ) (a : Answer A) {x : A} → provided b n a ≡ gives x → (b ≡ true) × (a ≡ gives x)
+provided-inv true n a e = (refl, e)
+provided-inv false n a e = let z : _≡_ {A = ℕ} 0 1 = cc in absurd (omega arith)
+
+pub passes : {A : Type 0} {b : Bool} → b ≡ true → (n : ℕ) (a : Answer A) → provided b n a ≡ a
+passes e n a = ap (λ (x : Bool). provided x n a) e
+
+pub fails : {A : Type 0} {b : Bool} → b ≡ false → (n : ℕ) (a : Answer A) → provided b n a ≡ refuses n
+fails e n a = ap (λ (x : Bool). provided x n a) e
+
+-- What comes after a test has to be the same only where the test passes.
+pub under : {A : Type 0} (b : Bool) (n : ℕ) {a c : Answer A} → (b ≡ true → a ≡ c) → provided b n a ≡ provided b n c
+under true n h = h refl
+under false n h = refl
+
+-- ---- what a build takes
+
+pub in-range : (L : Layout) → 3 ≤ L .entries → L .entries ≤ 15 → entriesInRange L ≡ true
+in-range L least most = and-true _ _ .1 (le-leb 3 (L .entries) least, le-leb (L .entries) 15 most)
+
+pub range-in : (L : Layout) → entriesInRange L ≡ true → (3 ≤ L .entries) × (L .entries ≤ 15)
+range-in L e = let t = and-true (leb 3 (L .entries)) (leb (L .entries) 15) .0 e in (leb-true _ _ (t .0), leb-true _ _ (t .1))
+
+module _ (L : Layout) (ks vs : List ℕ) (h : ℕ) where
+  -- The archive's end, and whether the width holds its offsets.
+  abbrev end : ℕ
+  end = h + length (behind L h (treeOf L (pairs ks vs)) (length ks))
+
+  abbrev fits : Bool
+  fits = archiveEmplaces L (treeOf L (pairs ks vs)) (start L (treeOf L (pairs ks vs)) h)
+
+  -- What 24 and 16 let through.
+  pub record LayoutTakes : Type 0 where
+    pub least : 3 ≤ L .entries
+    pub most : L .entries ≤ 15
+    pub offsets : archiveEmplaces L (treeOf L (pairs ks vs)) (start L (treeOf L (pairs ks vs)) h) ≡ true
+
+  both : (out n : ℕ) → build L ks vs h out ≡ gives n → LayoutTakes × Taken L ks vs h out n
+  unfolding build
+  both out n e =
+      let (e₀, a₀) = provided-inv (entriesInRange L) _ _ e in
+      let (e₁, a₁) = provided-inv (eqb (length ks) (length vs)) _ _ a₀ in
+      let (e₂, a₂) = provided-inv (leb (length ks) 40000) _ _ a₁ in
+      let (e₃, a₃) = provided-inv (rises ks) _ _ a₂ in
+      let (e₄, a₄) = provided-inv (leb h 4096) _ _ a₃ in
+      let (e₅, a₅) = provided-inv (leb end out) _ _ a₄ in
+      let (e₆, a₆) = provided-inv fits _ _ a₅ in
+      let r = range-in L e₀ in
+      let en : end ≡ n = cc in (
+        record { least = r .0; most = r .1; offsets = e₆ },
+        record {
+          lengths = eqb-true _ _ e₁;
+          few = leb-true _ _ e₂;
+          ascends = e₃;
+          header = leb-true _ _ e₄;
+          fits = omega (arith, leb-true end out e₅);
+          size = sym en;
+        },
+      )
+
+  pub taken : (out n : ℕ) → build L ks vs h out ≡ gives n → Taken L ks vs h out n
+  taken out n e = both out n e .1
+
+  pub layout-takes : (out n : ℕ) → build L ks vs h out ≡ gives n → LayoutTakes
+  layout-takes out n e = both out n e .0
+
+  -- What 24 and 10 to 14 let through is refused by 16 alone.
+  pub only-16 : (out n : ℕ) → 3 ≤ L .entries → L .entries ≤ 15 → Taken L ks vs h out n
+      → build L ks vs h out ≡ provided (archiveEmplaces L (treeOf L (pairs ks vs)) (start L (treeOf L (pairs ks vs)) h)) 16 (gives n)
+  unfolding build
+  only-16 out n least most T =
+      passes (in-range L least most) _ _ ∙ passes (eq-eqb (length ks) (length vs) (T .lengths)) _ _ ∙ passes (le-leb (length ks) 40000 (T .few)) _ _
+      ∙ passes (T .ascends) _ _ ∙ passes (le-leb h 4096 (T .header)) _ _ ∙ passes (le-leb end out (omega (arith, T .fits, T .size))) _ _
+      ∙ ap (λ (x : ℕ). provided fits 16 (gives x)) (sym (T .size))
+
+  pub taken-gives : (out n : ℕ) → LayoutTakes → Taken L ks vs h out n → build L ks vs h out ≡ gives n
+  taken-gives out n A T = only-16 out n (A .least) (A .most) T ∙ passes (A .offsets) _ _
+
+  -- ---- the output
+
+  -- The header, the archive behind it, and the bytes past the archive as they were.
+  pub build-output : (out : List ℕ) (n : ℕ) → build L ks vs h (length out) ≡ gives n
+      → outAfter L ks vs h out ≡ archive L (take h out) (pairs ks vs) ++ drop n out
+  unfolding outAfter archive
+  build-output out n e =
+      let T = taken (length out) n e in
+      let es = pairs ks vs in
+      let bs = behind L h (treeOf L es) (length es) in
+      let el : length bs ≡ length (behind L h (treeOf L es) (length ks)) =
+      ap (λ (x : ℕ). length (behind L h (treeOf L es) x)) (length-pairs ks vs (T .lengths)) in
+      let en : h + length bs ≡ n = omega (arith, T .size) in
+      let eh : length (take h out) ≡ h = length-take-le h out (omega (arith, T .fits)) in
+      ap (λ (a : Answer ℕ). outBy L a h es out) e ∙ sets-eq bs out h (omega (arith, T .fits))
+      ∙ ap (λ (x : ℕ). (take h out ++ bs) ++ drop x out) en
+      ∙ ap (λ (x : ℕ). (take h out ++ behind L x (treeOf L es) (length es)) ++ drop n out) (sym eh)
+
+  -- "Its archive is the output's first N bytes as it left them"
+  pub build-archive : (out : List ℕ) (n : ℕ) → build L ks vs h (length out) ≡ gives n
+      → take n (outAfter L ks vs h out) ≡ archive L (take h out) (pairs ks vs)
+  unfolding archive
+  build-archive out n e =
+      let T = taken (length out) n e in
+      let es = pairs ks vs in
+      let front = take h out in
+      let eh : length front ≡ h = length-take-le h out (omega (arith, T .fits, T .size)) in
+      let eb : length (behind L (length front) (treeOf L es) (length es)) ≡ length (behind L h (treeOf L es) (length ks)) =
+      ap₂ (λ (i j : ℕ). length (behind L i (treeOf L es) j)) eh (length-pairs ks vs (T .lengths)) in
+      ap (take n) (build-output out n e)
+      ∙ take-at (archive L front es) (drop n out) n (length-append front _ ∙ omega (arith, T .size))
