@@ -8,12 +8,15 @@ use native.Mathlib.Numerals.{add-one}
 use borrow.Author.Tests.{lt-ltb, le-ltb, le-leb, lt-leb, eq-eqb, ne-eqb}
 use lib.ListN.{length, getD, drop, replicate, length-replicate, drop-of-length-le}
 use lib.Seq.{drop-cons}
+use lib.Dec.{leb, eqb, lit≤}
 use Rattle.format.specs.Layout.{layout32}
 use Rattle.format.specs.Bytes.{put}
-use Rattle.format.specs.Refusal.{Answer, gives, refuses}
+use Rattle.format.specs.Refusal.{Answer, gives, refuses, provided}
 use Rattle.format.specs.Tree.{KeyValue}
 use Rattle.format.specs.Build.{treeOf, behind, pairs, risesFrom, rises, build, buildLength, outBy, outAfter}
-use Rattle.format.specs.Laws.Build.Built32.{length-pairs}
+use Rattle.format.specs.Laws.Build.Given.{length-pairs}
+use Rattle.format.specs.Laws.Build.Certifies.{wide-build}
+use Rattle.format.specs.Laws.Build.Lengths.{wide-length}
 use Rattle.builder.specs.Size.{endOf}
 use Rattle.builder.proofs.Whole.{end-is}
 
@@ -59,29 +62,37 @@ module _ (ks vs : List ℕ) (h : ℕ) (out : List ℕ) where
     pub answer : r ≡ build layout32 ks vs h (length out)
     pub after : o ≡ outAfter layout32 ks vs h out
 
-  refused : (n : ℕ) → refuses n ≡ build layout32 ks vs h (length out) → Answered (refuses n) out
+  -- 10 to 14, in order.
+  abbrev tests : Answer ℕ
+  tests =
+      let n = h + length (behind layout32 h (treeOf layout32 (pairs ks vs)) (length ks)) in
+      provided (eqb (length ks) (length vs)) 10
+      (provided (leb (length ks) 40000) 11
+      (provided (rises ks) 12
+      (provided (leb h 4096) 13
+      (provided (leb n (length out)) 14 (gives n)))))
+
+  tested : tests ≡ build layout32 ks vs h (length out)
+  tested = sym (wide-build layout32 ks vs h (length out) (lit≤ tt) (lit≤ tt) (lit≤ tt))
+
+  refused : (n : ℕ) → refuses n ≡ tests → Answered (refuses n) out
   unfolding outAfter
-  refused n e = record { answer = e; after = ap (λ (a : Answer ℕ). outBy layout32 a h (pairs ks vs) out) e }
+  refused n e = let e′ = e ∙ tested in record { answer = e′; after = ap (λ (a : Answer ℕ). outBy layout32 a h (pairs ks vs) out) e′ }
 
   pub refuse-10 : (length ks ≡ length vs → ⊥) → Answered (refuses 10) out
-  unfolding build
   refuse-10 a = refused 10 (simp (ne-eqb (length ks) (length vs) a))
 
   pub refuse-11 : length ks ≡ length vs → 40000 < length ks → Answered (refuses 11) out
-  unfolding build
   refuse-11 a b = refused 11 (simp (eq-eqb (length ks) (length vs) a, lt-leb (length ks) 40000 b))
 
   module _ (a : length ks ≡ length vs) (b : length ks ≤ 40000) where
     pub refuse-12 : rises ks ≡ false → Answered (refuses 12) out
-    unfolding build
     refuse-12 c = refused 12 (simp (eq-eqb (length ks) (length vs) a, le-leb (length ks) 40000 b, c))
 
     pub refuse-13 : rises ks ≡ true → 4096 < h → Answered (refuses 13) out
-    unfolding build
     refuse-13 c d = refused 13 (simp (eq-eqb (length ks) (length vs) a, le-leb (length ks) 40000 b, c, lt-leb h 4096 d))
 
     pub refuse-14 : rises ks ≡ true → h ≤ 4096 → length out < endOf (length ks) h → Answered (refuses 14) out
-    unfolding build
     refuse-14 c d e =
         let n = h + length (behind layout32 h (treeOf layout32 (pairs ks vs)) (length ks)) in
         let q : length out < n = omega (arith, end-is ks vs a b h) in
@@ -89,12 +100,12 @@ module _ (ks vs : List ℕ) (h : ℕ) (out : List ℕ) where
 
     pub accepted : rises ks ≡ true → h ≤ 4096 → endOf (length ks) h ≤ length out → (n : ℕ) → n ≡ endOf (length ks) h
         → (o : List ℕ) → o ≡ put out h (behind layout32 h (treeOf layout32 (pairs ks vs)) (length ks)) → Answered (gives n) o
-    unfolding build outAfter
+    unfolding outAfter
     accepted c d e n en o eo =
         let z = h + length (behind layout32 h (treeOf layout32 (pairs ks vs)) (length ks)) in
         let q : z ≤ length out = omega (arith, end-is ks vs a b h) in
-        let y : gives z ≡ build layout32 ks vs h (length out) =
-        simp (eq-eqb (length ks) (length vs) a, le-leb (length ks) 40000 b, c, le-leb h 4096 d, le-leb z (length out) q) in
+        let t : gives z ≡ tests = simp (eq-eqb (length ks) (length vs) a, le-leb (length ks) 40000 b, c, le-leb h 4096 d, le-leb z (length out) q) in
+        let y = t ∙ tested in
         record {
           answer = ap gives (en ∙ sym (end-is ks vs a b h)) ∙ y;
           after = eo ∙ ap (λ (i : ℕ). put out h (behind layout32 h (treeOf layout32 (pairs ks vs)) i)) (sym (length-pairs ks vs a)) ∙ ap (λ (x : Answer ℕ). outBy layout32 x h (pairs ks vs) out) y;
@@ -103,18 +114,20 @@ module _ (ks vs : List ℕ) (h : ℕ) (out : List ℕ) where
 -- ---- the length for so many entries
 
 module _ (n h : ℕ) where
+  length-tests : buildLength layout32 n h
+      ≡ provided (leb n 40000) 11
+      (provided (leb h 4096) 13 (gives (h + length (behind layout32 h (treeOf layout32 (replicate n (record { key = 0; value = 0 }))) n))))
+  length-tests = wide-length layout32 n h (lit≤ tt) (lit≤ tt) (lit≤ tt)
+
   pub length-11 : 40000 < n → refuses 11 ≡ buildLength layout32 n h
-  unfolding buildLength
-  length-11 a = simp (lt-leb n 40000 a)
+  length-11 a = rw (length-tests, lt-leb n 40000 a)
 
   module _ (a : n ≤ 40000) where
     pub length-13 : 4096 < h → refuses 13 ≡ buildLength layout32 n h
-    unfolding buildLength
-    length-13 b = simp (le-leb n 40000 a, lt-leb h 4096 b)
+    length-13 b = rw (length-tests, le-leb n 40000 a, lt-leb h 4096 b)
 
     pub length-accepted : h ≤ 4096 → (e : ℕ) → e ≡ endOf n h → gives e ≡ buildLength layout32 n h
-    unfolding buildLength
-    length-accepted b e ee = simp (le-leb n 40000 a, le-leb h 4096 b) (ap gives (ee ∙ sym ends))
+    length-accepted b e ee = rw (length-tests, le-leb n 40000 a, le-leb h 4096 b) (ap gives (ee ∙ sym ends))
       where
         noughts : (n : ℕ) → pairs (replicate n 0) (replicate n 0) ≡ replicate n (record { key = 0; value = 0 })
         noughts zero = refl

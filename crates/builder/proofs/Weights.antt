@@ -11,7 +11,8 @@ use lib.Dec.{lit≤}
 use Rattle.format.specs.Layout.{layout32}
 use Rattle.format.specs.Tree.{lengthBranches, lengthBranch, KeyValue}
 use Rattle.format.specs.Build.{Filled, FilledBranches, fillNext, fillBranches, fill, height, lastLevel, treeOf}
-use Rattle.format.specs.Laws.Build.Filling.{upper, room, Took, fill-took}
+use Rattle.format.specs.Weight.{upper, room}
+use Rattle.format.specs.Laws.Build.Filling.{Took, fill-took}
 use Rattle.format.specs.Laws.Build.Height.{fitting}
 use Rattle.format.specs.Laws.Build.Built.{tree-is}
 use Rattle.builder.specs.Size.{weighs, weight}

@@ -17,9 +17,8 @@ use Rattle.format.specs.Build.{height, lastLevel, treeOf, firstAlign, recordByt
 use Rattle.format.specs.TreeShape.{There}
 use Rattle.format.specs.Laws.Numbers.Align.{alignment-pos, step-given, zeros-lt}
 use Rattle.format.specs.Laws.Build.NodeBytes.{length-writeBranch}
-use Rattle.format.specs.Laws.Build.Lengths.{behind-length}
-use Rattle.format.specs.Laws.Build.Streaming.{tree-there}
-use Rattle.format.specs.Laws.Build.Built32.{length-pairs}
+use Rattle.format.specs.Laws.Build.Built.{behind-length, tree-there}
+use Rattle.format.specs.Laws.Build.Given.{length-pairs}
 use Rattle.builder.specs.Size.{weight, endOf}
 use Rattle.nodes.proofs.Laws.{join}
 use Rattle.builder.proofs.Weights.{tree-weighs}
@@ -37,7 +36,7 @@ module _ (ks vs : List ℕ) (same : length ks ≡ length vs) (p : 0 < length ks)
 
       by : (all : List KeyValue) → length all ≡ length ks → firstAlign layout32 (treeOf layout32 all) ≡ 8
       by [] e = absurd (omega arith)
-      by (x ∷ xs) e = there (treeOf layout32 (x ∷ xs)) (tree-there layout32 (omega arith) x xs)
+      by (x ∷ xs) e = there (treeOf layout32 (x ∷ xs)) (tree-there layout32 x xs (omega arith))
 
   -- The tree's length is that of the formula.
   tree-weight : lengthBranch layout32 tree ≡ weight (height layout32 (length ks) - 1) (lastLevel layout32 (length ks))

@@ -1,4 +1,4 @@
--- The refusals' numbers are 1 to 18, and minus a number as the machine makes it. Assumes nothing.
+-- The refusals' numbers are 1 to 24, and minus a number as the machine makes it. Assumes nothing.
 use mir.Syntax.{w64}
 use mir.Val.{toZ, ofZ, SFits}
 use mir.Facts.{toZ-pos, toZ-ofZ}
@@ -13,10 +13,10 @@ use Rattle.format.specs.declared.Refusal.{Refusal}
 use Rattle.format.specs.declared.Refusal.the-variants.{ArchiveTooLong, InvalidSubtreePointer, UnalignedPointer, InvalidKind}
 use Rattle.format.specs.declared.Refusal.the-variants.{ExceededMaximumSubtreeDepth, InvalidLength, EntriesLengthMismatch, HollowNode}
 use Rattle.format.specs.declared.Refusal.the-variants.{KeysNotAscending, IteratorLengthMismatch, TooManyEntries, GivenKeysNotAscending, HeaderTooLong}
-use Rattle.format.specs.declared.Refusal.the-variants.{OutputTooShort, IsizeOverflow, OffsetOverflow, InvalidAlignment, KeyFieldOverflow}
+use Rattle.format.specs.declared.Refusal.the-variants.{OutputTooShort, IsizeOverflow, OffsetOverflow, InvalidAlignment, KeyFieldOverflow, EntriesOutOfRange}
 use Rattle.format.specs.Refusal.{number}
 
-pub number-listed : (why : Refusal) → (1 ≤ number why) × (number why ≤ 18)
+pub number-listed : (why : Refusal) → (1 ≤ number why) × (number why ≤ 24)
 number-listed ArchiveTooLong = (lit≤ tt, lit≤ tt)
 number-listed InvalidSubtreePointer = (lit≤ tt, lit≤ tt)
 number-listed UnalignedPointer = (lit≤ tt, lit≤ tt)
@@ -35,6 +35,7 @@ number-listed IsizeOverflow = (lit≤ tt, lit≤ tt)
 number-listed OffsetOverflow = (lit≤ tt, lit≤ tt)
 number-listed InvalidAlignment = (lit≤ tt, lit≤ tt)
 number-listed KeyFieldOverflow = (lit≤ tt, lit≤ tt)
+number-listed EntriesOutOfRange = (lit≤ tt, lit≤ tt)
 
 minus-mag : (n : ℕ) → n < 2 ^ 63 → mag (negℤ (pos n)) < 2 ^ 63
 minus-mag zero h = h

@@ -1,35 +1,29 @@
--- How large the numbers are that the calls give: over bytes, the recorded count and the numbers written fit the count's field, and a build ends no
--- later than the longest archive. Assumes nothing.
-use Prim.Native.Nat.{ℕ, zero, suc, _+_, _^_, _≤_, _<_}
+-- How large the numbers are that the calls give: over bytes, the recorded count and the numbers written fit the count's field. Assumes nothing.
+use Prim.Native.Nat.{ℕ, _+_, _^_, _≤_, _<_}
 use mathlib.Core.Path.{_≡_, refl, sym, _∙_, ap}
-use mathlib.Core.List.{List, [], _∷_}
+use mathlib.Core.List.{List}
 use native.Mathlib.Omega.{arith}
 use lib.IntN.{ℤ}
-use lib.Dec.{leb, lit<, lit≤}
-use borrow.Author.Tests.{leb-true}
-use lib.ListN.{length, replicate, length-replicate}
+use lib.ListN.{length}
 use Rattle.format.specs.declared.Bound.{Bound}
 use Rattle.format.specs.declared.Packing.{Packing}
-use Rattle.format.specs.Layout.{Layout, Limits, layout32, standard, pointer}
-use Rattle.format.specs.Refusal.{Answer, gives, refuses}
-use Rattle.format.specs.Bytes.{AllBytes, AllWords}
+use Rattle.format.specs.Layout.{Layout, Limits, pointer}
+use Rattle.format.specs.Refusal.{Answer, gives, refuses, RefusesBy}
+use Rattle.format.specs.Bytes.{AllBytes}
 use Rattle.format.specs.Key.{Column, columnBounds}
 use Rattle.format.specs.Check.{Checked, accepted, refused, counted, root, recorded, checkArchive}
 use Rattle.format.specs.Certify.{certify}
 use Rattle.format.specs.Entries.{list}
 use Rattle.format.specs.Range.{matches, range}
 use Rattle.format.specs.Written.{written}
-use Rattle.format.specs.Tree.{lengthBranch, KeyValue}
-use Rattle.format.specs.Build.{treeOf, behind, pairs, build, buildLength, archive}
 use Rattle.format.specs.Calls.{Walk, Matched, walkCall, rangeCall, columnCall}
-use Rattle.format.specs.TreeShape.{AllFit}
 use Rattle.format.specs.Laws.Numbers.Bytes.{leAt-lt}
 use Rattle.format.specs.Laws.Check.Archive.{list-length}
+use Rattle.format.specs.Laws.Check.Refusals.{check-by}
 use Rattle.format.specs.Laws.Range.List.{select-few}
-use Rattle.format.specs.Laws.Calls.Accepted.{is-archive, is-recorded, not-long, walk-refuses, walk-accepted}
+use Rattle.format.specs.Laws.Calls.Accepted.{is-archive, is-recorded, walk-refuses, walk-accepted}
 use Rattle.format.specs.Laws.Calls.Certified.{certified-accepts, range-refuses, range-certified, column-ranges, column-uncertified, column-refused}
-use Rattle.format.specs.Laws.Build.Built32.{start-near, small-tree, provided-inv, build-certifies}
-use Rattle.format.specs.Laws.Build.Lengths.{behind-length}
+use Rattle.lookups.specs.Many.{manyCall}
 use Rattle.fieldmap.specs.Refusals.{given}
 
 module _ (L : Layout) (M : Limits) (s : List ℕ) (b : AllBytes s) where
@@ -73,30 +67,11 @@ module _ (L : Layout) (M : Limits) (s : List ℕ) (b : AllBytes s) where
           by (gives c) ec = range-fits (c .lower) (c .upper) m (sym (column-ranges L M s P exam eye x y ks vs c ec) ∙ e)
           by (refuses q) ec = absurd (no-column q ec (certify L M s) refl)
 
--- The archive that a build leaves is one that the check accepts.
-pub build-fits : (ks vs : List ℕ) (h room n : ℕ) → AllWords ks → AllWords vs → build layout32 ks vs h room ≡ gives n → n ≤ standard .longest
-build-fits ks vs h room n wk wv e =
-    let front : List ℕ = replicate h 0 in
-    let C = build-certifies front ks vs room n wk wv (ap (λ (x : ℕ). build layout32 ks vs x room) (length-replicate h 0) ∙ e) in
-    let s = archive layout32 front (pairs ks vs) in
-    omega (arith, C .length-is, not-long layout32 standard s (length ks) (certified-accepts layout32 standard s (length ks) (C .certified)))
-
-pub length-fits : (n h m : ℕ) → buildLength layout32 n h ≡ gives m → m ≤ standard .longest
-unfolding buildLength treeOf standard
-length-fits n h m e =
-    let es : List KeyValue = replicate n (record { key = 0; value = 0 }) in
-    let b = treeOf layout32 es in
-    let (few, e₁) = provided-inv (leb n 40000) _ _ e in
-    let (low, e₂) = provided-inv (leb h 4096) _ _ e₁ in
-    let em : m ≡ h + length (behind layout32 h b n) = cc in
-    let el = length-replicate {A = KeyValue} n (record { key = 0; value = 0 }) in
-    let n-few = leb-true n 40000 few in
-    omega (arith, n-few, leb-true h 4096 low, behind-length layout32 h n b, start-near b h, short es (fit n) (omega (arith, el, n-few)))
+-- A lookup of many keys is refused where the check refuses.
+pub many-by : (L : Layout) (M : Limits) (s ks vs : List ℕ) → RefusesBy 1 7 (manyCall L M s ks vs)
+unfolding manyCall
+many-by L M s ks vs r e = by (checkArchive L M s) refl
   where
-    fit : (n : ℕ) → AllFit (replicate n (record { key = 0; value = 0 }))
-    fit zero = tt
-    fit (suc n) = (record { key = lit< tt; value = lit< tt }, fit n)
-
-    short : (es : List KeyValue) → AllFit es → length es ≤ 40000 → lengthBranch layout32 (treeOf layout32 es) ≤ 896112
-    short [] f l = lit≤ tt
-    short (x ∷ es) f l = small-tree x es l f .short
+    by : (a : Checked) → checkArchive L M s ≡ a → (1 ≤ r) × (r ≤ 7)
+    by (accepted n t) ea = absurd (given (rw (ea, manyCall) at e))
+    by (refused q) ea = check-by L M s r (ap counted ea ∙ (rw (ea, manyCall) at e))

@@ -4,7 +4,7 @@
 use Prim.Native.Nat.{ℕ, _^_, _<_}
 use mathlib.Core.Path.{_≡_, sym, _∙_, ap}
 use mathlib.Core.Logic.{_≢_, _↔_, _⊎_}
-use mathlib.Core.Bool.{false}
+use mathlib.Core.Bool.{true, false}
 use mathlib.Core.List.{List, [], map, _++_}
 use native.Mathlib.Omega.{arith}
 use lib.Dec.{lit≤}
@@ -30,11 +30,12 @@ use Rattle.format.specs.Range.{crosses, range}
 use Rattle.format.specs.RangeIter.{new, Yields}
 use Rattle.format.specs.Written.{written, keysAfter, valuesAfter}
 use Rattle.format.specs.Tree.{KeyValue}
-use Rattle.format.specs.Build.{treeOf, pairs, build, buildLength, archive, outBy, outAfter}
+use Rattle.format.specs.Build.{treeOf, start, pairs, build, buildLength, archive, outBy, outAfter}
 use Rattle.format.specs.Serialize.{serialize, streamed}
 use Rattle.format.specs.Calls.{lookupCall, bytesCall, placeCall, walkCall, walkKeys, walkValues, rangeCall, rangeKeys, rangeValues}
 use Rattle.format.specs.Calls.{columnCall, columnKeys, columnValues}
-use Rattle.format.specs.Built.{Taken, Offsets}
+use Rattle.format.specs.Offsets.{archiveEmplaces}
+use Rattle.format.specs.Built.{Taken}
 use Rattle.format.specs.Laws.Certify.Find.{find-found, find-nothing, find-one}
 use Rattle.fieldmap.specs.Refusals.{lookup-refused, walk-refused, range-refused, column-refused-by}
 use Rattle.fieldmap.specs.Refusals.{build-by, length-by, signed-by, stored-by, absent-by, align-by, pack-by}
@@ -48,7 +49,8 @@ use Rattle.format.specs.Laws.Calls.Certified.{range-refuses, range-keys-refuses
 use Rattle.format.specs.Laws.Calls.Certified.{certified-exactly, is-certified, certified-accepts, range-certified, range-keys-certified, range-values-certified}
 use Rattle.format.specs.Laws.Range.Iter.{range-yields}
 use Rattle.format.specs.Laws.Numbers.Key.{pack-unpack}
-use Rattle.format.specs.Laws.Build.Built32.{taken, taken-gives, build-certifies, build-output, build-archive, build-emplaces}
+use Rattle.format.specs.Laws.Build.Taken.{taken, layout-takes, build-output, build-archive}
+use Rattle.format.specs.Laws.Build.Certifies.{build-certifies, wide-gives}
 use Rattle.format.specs.Laws.Build.Lengths.{length-given}
 use Rattle.format.specs.Laws.Build.Streaming.{never-panics, streamed-archive}
 
@@ -135,7 +137,7 @@ demand-1-column s P exam eye a b ks vs r e =
 
 -- A build refuses only by 10 to 14, and leaves the output.
 pub demand-1-build : (ks vs : List ℕ) (h room : ℕ) → RefusesBy 10 14 (build layout32 ks vs h room)
-demand-1-build ks vs h room = build-by layout32 ks vs h room
+demand-1-build ks vs h room = build-by layout32 (lit≤ tt) (lit≤ tt) (lit≤ tt) ks vs h room
 
 pub demand-1-output : (ks vs : List ℕ) (h : ℕ) (out : List ℕ) (r : ℕ) → build layout32 ks vs h (length out) ≡ refuses r → outAfter layout32 ks vs h out ≡ out
 unfolding outAfter
@@ -143,7 +145,7 @@ demand-1-output ks vs h out r e = ap (λ (a : Answer ℕ). outBy layout32 a h (p
 
 -- The length for so many entries is refused only by 11 and 13.
 pub demand-1-length : (n h r : ℕ) → buildLength layout32 n h ≡ refuses r → (r ≡ 11) ⊎ (r ≡ 13)
-demand-1-length n h r e = length-by layout32 n h r e
+demand-1-length n h r e = length-by layout32 (lit≤ tt) (lit≤ tt) (lit≤ tt) n h r e
 
 -- The parts and the packing are lent nothing. The absent mark is asked for a position, which has 64 bits.
 pub demand-1-signed-offset : (from to : ℕ) → RefusesBy 15 15 (signedOffset from to)
@@ -179,8 +181,7 @@ pub record Streamed (header : List ℕ) (es : List KeyValue) : Type 0 where
   pub bytes : streamed layout32 header es ≡ archive layout32 header es
 
 pub demand-2-build : (header : List ℕ) (es : List KeyValue) → Streamed header es
-demand-2-build header es =
-    record { panics = never-panics layout32 (lit≤ tt) es; bytes = streamed-archive layout32 (lit≤ tt) header es }
+demand-2-build header es = record { panics = never-panics layout32 (lit≤ tt) es; bytes = streamed-archive layout32 (lit≤ tt) header es }
 
 -- ---- demand 3, "Whatever bytes are handed in as an archive: if the check accepts them"
 
@@ -266,7 +267,7 @@ module _ (s : List ℕ) (n : ℕ) (certifies : counted (certify layout32 standar
 
 -- "And for every strictly ascending list that the builder takes": it takes exactly what 10 to 14 let through.
 pub demand-3-takes : (ks vs : List ℕ) (h room n : ℕ) → (build layout32 ks vs h room ≡ gives n) ↔ Taken layout32 ks vs h room n
-demand-3-takes ks vs h room n = (taken layout32 ks vs h room n, taken-gives layout32 ks vs h room n)
+demand-3-takes ks vs h room n = (taken layout32 ks vs h room n, wide-gives layout32 ks vs h room (lit≤ tt) (lit≤ tt) (lit≤ tt) n)
 
 -- Where it gives an end, that is the length for so many entries.
 pub demand-3-length : (ks vs : List ℕ) (h room n : ℕ) → build layout32 ks vs h room ≡ gives n → buildLength layout32 (length ks) h ≡ gives n
@@ -281,13 +282,13 @@ module _ (ks vs : List ℕ) (out : List ℕ) (h n : ℕ) (wk : AllWords ks) (wv 
     pub values : map (λ (e : Entry). e .value) (list layout32 standard (take n (outAfter layout32 ks vs h out))) ≡ vs
     pub bytes : take n (outAfter layout32 ks vs h out) ≡ archive layout32 (take h out) (pairs ks vs)
     pub output : outAfter layout32 ks vs h out ≡ archive layout32 (take h out) (pairs ks vs) ++ drop n out
-    pub offsets : Offsets h (treeOf layout32 (pairs ks vs))
+    pub offsets : archiveEmplaces layout32 (treeOf layout32 (pairs ks vs)) (start layout32 (treeOf layout32 (pairs ks vs)) h) ≡ true
 
   pub demand-3-build : BuiltArchive
   demand-3-build =
       let T = taken layout32 ks vs h (length out) n takes in
       let eh : length (take h out) ≡ h = length-take-le h out (omega (arith, T .fits, T .size)) in
-      let C = build-certifies (take h out) ks vs (length out) n wk wv (ap (λ (x : ℕ). build layout32 ks vs x (length out)) eh ∙ takes) in
+      let C = build-certifies layout32 (take h out) ks vs (length out) n wk wv (ap (λ (x : ℕ). build layout32 ks vs x (length out)) eh ∙ takes) in
       let b = build-archive layout32 ks vs h out n takes in
       record {
         certified = ap (λ (s : List ℕ). counted (certify layout32 standard s)) b ∙ C .certified;
@@ -295,5 +296,5 @@ module _ (ks vs : List ℕ) (out : List ℕ) (h n : ℕ) (wk : AllWords ks) (wv 
         values = ap (λ (s : List ℕ). map (λ (e : Entry). e .value) (list layout32 standard s)) b ∙ C .values;
         bytes = b;
         output = build-output layout32 ks vs h out n takes;
-        offsets = build-emplaces ks vs h (length out) n wk wv takes;
+        offsets = layout-takes layout32 ks vs h (length out) n takes .offsets;
       }

@@ -13,7 +13,7 @@ use lib.Signed.{mag}
 use borrow.Author.Tests.{ltb-true, ltb-false}
 use Rattle.format.specs.declared.Bound.{Bound}
 use Rattle.format.specs.declared.Packing.{Packing}
-use Rattle.format.specs.Layout.{Layout, Limits}
+use Rattle.format.specs.Layout.{Layout, Limits, pointer}
 use Rattle.format.specs.Refusal.{Answer, gives, refuses, provided, andThen, RefusesBy}
 use Rattle.format.specs.RelPtr.{fitSigned, signedOffset, storedOffset, absentOffset}
 use Rattle.format.specs.Align.{isAlignment, zerosTo, alignStep}
@@ -23,7 +23,10 @@ use Rattle.format.specs.Certify.{certify}
 use Rattle.format.specs.Build.{treeOf, behind, pairs, rises, build, buildLength}
 use Rattle.format.specs.Calls.{lookupCall, walkCall, rangeCall, columnCall, columnKeys, columnValues}
 use Rattle.format.specs.Laws.Numbers.RelPtr.{absent-last, stored-15, offset-behind, fits-refused}
+use Rattle.format.specs.Laws.Check.Refusals.{check-by, certify-by}
 use Rattle.format.specs.Laws.Build.BytesAt.{absent-fits}
+use Rattle.format.specs.Laws.Build.Certifies.{wide-build}
+use Rattle.format.specs.Laws.Build.Lengths.{wide-length}
 use Rattle.format.specs.Laws.Calls.Accepted.{lookup-refuses, lookup-accepted, walk-refuses, walk-accepted}
 use Rattle.format.specs.Laws.Calls.Certified.{range-refuses, range-keys-refuses, range-values-refuses, range-certified, column-ranges, column-values-refused}
 use Rattle.format.specs.Laws.Calls.Certified.{column-keys-ranges, column-values-ranges, column-uncertified, column-refused, column-keys-refused}
@@ -98,23 +101,34 @@ columns-by P exam eye a b =
 
 -- ---- the builder
 
-pub build-by : (L : Layout) (ks vs : List ℕ) (h room : ℕ) → RefusesBy 10 14 (build L ks vs h room)
-unfolding build
-build-by L ks vs h room =
-    let n = h + length (behind L h (treeOf L (pairs ks vs)) (length ks)) in
-    by-provided (eqb (length ks) (length vs)) 10 _ (omega arith) (omega arith)
-    (by-provided (leb (length ks) 40000) 11 _ (omega arith) (omega arith)
-    (by-provided (rises ks) 12 _ (omega arith) (omega arith)
-    (by-provided (leb h 4096) 13 _ (omega arith) (omega arith) (by-provided (leb n room) 14 _ (omega arith) (omega arith) (by-gives n)))))
+-- With 32 and 64 bits neither 24 nor 16 arises.
+module _ (L : Layout) (least : 3 ≤ L .entries) (most : L .entries ≤ 15) (w : 4 ≤ pointer L) where
+  pub build-by : (ks vs : List ℕ) (h room : ℕ) → RefusesBy 10 14 (build L ks vs h room)
+  build-by ks vs h room r e = tests r (sym (wide-build L ks vs h room least most w) ∙ e)
+    where
+      n : ℕ
+      n = h + length (behind L h (treeOf L (pairs ks vs)) (length ks))
 
-pub length-by : (L : Layout) (n h r : ℕ) → buildLength L n h ≡ refuses r → (r ≡ 11) ⊎ (r ≡ 13)
-unfolding buildLength
-length-by L n h r e = by (leb n 40000) (leb h 4096) _ e
-  where
-    by : (a b : Bool) (x : ℕ) → provided a 11 (provided b 13 (gives x)) ≡ refuses r → (r ≡ 11) ⊎ (r ≡ 13)
-    by true true x e = absurd (given e)
-    by true false x e = inr (sym (same-number e))
-    by false b x e = inl (sym (same-number e))
+      tests : RefusesBy 10 14
+          (provided (eqb (length ks) (length vs)) 10
+          (provided (leb (length ks) 40000) 11
+          (provided (rises ks) 12 (provided (leb h 4096) 13 (provided (leb n room) 14 (gives n))))))
+      tests =
+          by-provided (eqb (length ks) (length vs)) 10 _ (omega arith) (omega arith)
+          (by-provided (leb (length ks) 40000) 11 _ (omega arith) (omega arith)
+          (by-provided (rises ks) 12 _ (omega arith) (omega arith)
+          (by-provided (leb h 4096) 13 _ (omega arith) (omega arith) (by-provided (leb n room) 14 _ (omega arith) (omega arith) (by-gives n)))))
+
+  pub length-by : (n h r : ℕ) → buildLength L n h ≡ refuses r → (r ≡ 11) ⊎ (r ≡ 13)
+  length-by n h r e = by (leb n 40000) (leb h 4096) _ (sym (wide-length L n h least most w) ∙ e)
+    where
+      by : (a b : Bool) (x : ℕ) → provided a 11 (provided b 13 (gives x)) ≡ refuses r → (r ≡ 11) ⊎ (r ≡ 13)
+      by true true x e = absurd (given e)
+      by true false x e = inr (sym (same-number e))
+      by false b x e = inl (sym (same-number e))
+
+  pub length-up-to : (n h : ℕ) → RefusesBy 11 13 (buildLength L n h)
+  length-up-to n h r e = elim (length-by n h r e) [ inl z ↦ (omega arith, omega arith) | inr z ↦ (omega arith, omega arith) ]
 
 -- ---- the readers
 
@@ -134,6 +148,15 @@ module _ (L : Layout) (M : Limits) (s : List ℕ) where
 
   pub range-refused : (lo hi : Bound) (ks vs : List ℕ) (r : ℕ) → rangeCall L M s lo hi ks vs ≡ refuses r → counted (certify L M s) ≡ refuses r
   range-refused lo hi ks vs = refused-first _ _ (λ n e. (_, range-certified L M s n e lo hi ks vs)) (λ q e. range-refuses L M s q e lo hi ks vs)
+
+  pub lookup-by : (k : ℕ) → RefusesBy 1 7 (lookupCall L M s k)
+  lookup-by k r e = check-by L M s r (lookup-refused k r e)
+
+  pub walk-by : (ks vs : List ℕ) → RefusesBy 1 7 (walkCall L M s ks vs)
+  walk-by ks vs r e = check-by L M s r (walk-refused ks vs r e)
+
+  pub range-by : (lo hi : Bound) (ks vs : List ℕ) → RefusesBy 1 9 (rangeCall L M s lo hi ks vs)
+  range-by lo hi ks vs r e = certify-by L M s r (range-refused lo hi ks vs r e)
 
   -- The column query: certify's refusals, then 18; the lent lists stay.
   module _ (P : Packing) (exam eye : ℕ) (a b : ℤ) (ks vs : List ℕ) (r : ℕ) (e : columnCall L M s P exam eye a b ks vs ≡ refuses r) where
@@ -165,3 +188,10 @@ module _ (L : Layout) (M : Limits) (s : List ℕ) where
           no-bounds q eb (counted (certify L M s)) refl,
           (column-keys-refused L M s P exam eye a b ks vs q eb, column-values-refused L M s P exam eye a b ks vs q eb),
         )
+
+  pub column-by : (P : Packing) (exam eye : ℕ) (a b : ℤ) (ks vs : List ℕ) → RefusesBy 1 18 (columnCall L M s P exam eye a b ks vs)
+  column-by P exam eye a b ks vs r e = go (column-refused-by P exam eye a b ks vs r e .0)
+    where
+      go : (counted (certify L M s) ≡ refuses r) ⊎ (r ≡ 18) → (1 ≤ r) × (r ≤ 18)
+      go (inl c) = omega (arith, certify-by L M s r c)
+      go (inr z) = omega arith

@@ -21,7 +21,7 @@ use Rattle.format.specs.Serialize.{State, withInners as withStack, closeLeaf, c
 use Rattle.format.specs.Laws.Build.LoopInner.{replicate-cons}
 use Rattle.format.specs.Laws.Numbers.Bytes.{put-append, length-leBytes}
 use Rattle.format.specs.Laws.Build.NodeBytes.{length-column, length-offset}
-use Rattle.format.specs.Laws.Build.Built32.{length-pairs}
+use Rattle.format.specs.Laws.Build.Given.{length-pairs}
 use Rattle.format.specs.Laws.Build.LoopSteps.{climb-close, climb-grow, turn-put, turn-close, turn-end}
 use Rattle.serialize.specs.declared.map.Next.the-variants.{Got, End}
 use Rattle.serialize.specs.declared.map.Fit.the-variants.{End as Ends}

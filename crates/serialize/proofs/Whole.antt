@@ -7,7 +7,7 @@ use native.Mathlib.Omega.{arith}
 use native.Mathlib.Nat.{not-suc-le-zero, pow-suc}
 use borrow.Author.Tests.{lt-ltb, le-ltb}
 use lib.ListN.{length, replicate}
-use lib.Dec.{lit<}
+use lib.Dec.{lit<, lit≤}
 use Rattle.format.specs.declared.Child.{Child}
 use Rattle.nodes.specs.declared.inline_vec.ChildPos.{ChildPos}
 use Rattle.format.specs.declared.Child.the-variants.{Absent}
@@ -19,7 +19,8 @@ use Rattle.format.specs.Serialize.{State, run, Agrees}
 use Rattle.format.specs.Laws.Build.NodeBytes.{length-offset}
 use Rattle.format.specs.Laws.Build.Height.{fitting}
 use Rattle.format.specs.Laws.Build.Streaming.{run-agrees}
-use Rattle.format.specs.Laws.Build.Built32.{levels, length-pairs}
+use Rattle.format.specs.Weight.{upper}
+use Rattle.format.specs.Laws.Build.Given.{length-pairs}
 use Rattle.nodes.specs.declared.ser_vec.OpenInners.{OpenInners}
 use Rattle.nodes.specs.Nodes.{childAt, noChild, newInners}
 use Rattle.serialize.specs.Machine.{St, runS, reopen}
@@ -38,6 +39,15 @@ pub record Depth (n d : ℕ) : Type 0 where
 pow-pos : (d : ℕ) → 0 < 6 ^ d
 pow-pos zero = lit< tt
 pow-pos (suc d) = let e : 6 ^ suc d ≡ 6 ^ d * 6 = pow-suc 6 d in omega (arith, pow-pos d)
+
+levels : (h : ℕ) → upper layout32 h < 40000 → h ≤ 5
+levels zero l = lit≤ tt
+levels (suc zero) l = lit≤ tt
+levels (suc (suc zero)) l = lit≤ tt
+levels (suc (suc (suc zero))) l = lit≤ tt
+levels (suc (suc (suc (suc zero)))) l = lit≤ tt
+levels (suc (suc (suc (suc (suc zero))))) l = lit≤ tt
+levels (suc (suc (suc (suc (suc (suc h)))))) l = absurd (omega arith)
 
 -- At most 40,000 entries have at most five levels above the last one.
 pub depth-bounds : (n d : ℕ) → 0 < n → n ≤ 40000 → d ≡ height layout32 n - 1 → Depth n d

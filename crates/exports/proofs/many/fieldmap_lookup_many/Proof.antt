@@ -3,11 +3,13 @@ use mathlib.Core.Path.{_∙_, sym, ap}
 use Prim.Native.Nat.{ℕ, _*_, _<_, _^_}
 use native.Mathlib.Omega.{arith}
 use lib.ListN.{length}
+use lib.Dec.{lit≤}
 use borrow.Author.Needs.{needs}
 use Rattle.format.specs.Layout.{layout32, standard}
 use Rattle.codes.proofs.Coded.{answers-given, answers-refused, returned}
 use Rattle.lookups.proofs.ManyLookups.{many-most}
 use Rattle.readers.specs.Answers.{manyOf}
+use Rattle.exports.proofs.Numbers.{many-by}
 use Rattle.exports.proofs.many.fieldmap_lookup_many.Statement.{statement}
 use Rattle.exports.proofs.many.fieldmap_lookup_many.Tie as tie
 
@@ -25,7 +27,8 @@ returns c =
     let call : tie.After-look-up-many = search in
     let told : tie.After-why = search in
     let (answer, lists) = call .look-up-many .ensures in
-    answers-refused (λ (n : ℕ). n) (told .why .given .0 .0) (sym answer ∙ ap manyOf (told .why .given .1)) (c .refused .ok) (c .refused .ensures) lists
+    answers-refused (λ (n : ℕ). n) (lit≤ tt) (many-by layout32 standard _ _ _) (told .why .given .0 .0) (sym answer ∙ ap manyOf (told .why .given .1))
+    (c .refused .ok) (c .refused .ensures) lists
 
 returns-2 : tie.Need-returns-2
 returns-2 c =

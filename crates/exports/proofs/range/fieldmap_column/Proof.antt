@@ -2,12 +2,14 @@
 use mir.Facts.{toZ-ofZ}
 use mathlib.Core.Path.{_∙_, sym, ap}
 use native.Mathlib.Omega.{arith}
+use lib.Dec.{lit≤}
 use borrow.Author.Needs.{needs}
 use Rattle.format.specs.Layout.{layout32, standard}
 use Rattle.exports.proofs.Numbers.{column-fits}
 use Rattle.readers.specs.Answers.{rangeOf}
 use Rattle.codes.specs.Answers.{rangeWritten, rangeMatching}
 use Rattle.codes.proofs.Coded.{answers-given, answers-refused, returned, store-given, store-refused}
+use Rattle.fieldmap.specs.Refusals.{column-by}
 use Rattle.exports.proofs.range.fieldmap_column.Statement.{statement}
 use Rattle.exports.proofs.range.fieldmap_column.Tie as tie
 
@@ -27,7 +29,7 @@ returns c =
     let (answer, lists) = call .column .ensures in
     let e = sym answer ∙ ap rangeOf (c .before .before .why .given .1) in
     rw (sym (by .packing .ensures), sym (toZ-ofZ (start .fits .a)), sym (toZ-ofZ (start .fits .b)))
-    (answers-refused rangeWritten (c .before .before .why .given .0 .0) e (c .refused .ok) (c .refused .ensures)
+    (answers-refused rangeWritten (lit≤ tt) (column-by layout32 standard _ _ _ _ _ _ _ _) (c .before .before .why .given .0 .0) e (c .refused .ok) (c .refused .ensures)
     (lists .0, (lists .1, store-refused rangeMatching _ e)))
 
 returns-2 : tie.Need-returns-2

@@ -1,12 +1,14 @@
 -- `exports::range::fieldmap_range` meets its contract. Assumes nothing.
 use mathlib.Core.Path.{_∙_, sym, ap}
 use native.Mathlib.Omega.{arith}
+use lib.Dec.{lit≤}
 use borrow.Author.Needs.{needs}
 use Rattle.format.specs.Layout.{layout32, standard}
 use Rattle.exports.proofs.Numbers.{range-fits}
 use Rattle.readers.specs.Answers.{rangeOf}
 use Rattle.codes.specs.Answers.{rangeWritten, rangeMatching}
 use Rattle.codes.proofs.Coded.{answers-given, answers-refused, returned, store-given, store-refused}
+use Rattle.fieldmap.specs.Refusals.{range-by}
 use Rattle.exports.proofs.range.fieldmap_range.Statement.{statement}
 use Rattle.exports.proofs.range.fieldmap_range.Tie as tie
 
@@ -25,7 +27,7 @@ returns c =
     let (answer, lists) = call .range .ensures in
     let e = sym answer ∙ ap rangeOf (c .before .before .why .given .1) in
     rw (sym (b .before .bound .ensures), sym (b .bound2 .ensures))
-    (answers-refused rangeWritten (c .before .before .why .given .0 .0) e (c .refused .ok) (c .refused .ensures)
+    (answers-refused rangeWritten (lit≤ tt) (range-by layout32 standard _ _ _ _ _) (c .before .before .why .given .0 .0) e (c .refused .ok) (c .refused .ensures)
     (lists .0, (lists .1, store-refused rangeMatching _ e)))
 
 returns-2 : tie.Need-returns-2

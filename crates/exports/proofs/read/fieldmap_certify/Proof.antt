@@ -2,12 +2,14 @@
 use Prim.Native.Nat.{ℕ}
 use mathlib.Core.Path.{_∙_, sym, ap}
 use native.Mathlib.Omega.{arith}
+use lib.Dec.{lit≤}
 use borrow.Author.Needs.{needs}
 use Rattle.format.specs.Layout.{layout32, standard}
 use Rattle.exports.proofs.Numbers.{count-fits}
 use Rattle.format.specs.Laws.Calls.Certified.{certified-accepts}
 use Rattle.codes.specs.Answers.{coded}
 use Rattle.codes.proofs.Coded.{told-counted, returned}
+use Rattle.format.specs.Laws.Check.Refusals.{certify-by}
 use Rattle.exports.proofs.read.fieldmap_certify.Statement.{statement}
 use Rattle.exports.proofs.read.fieldmap_certify.Tie as tie
 
@@ -21,7 +23,7 @@ returns : tie.Need-returns
 returns c =
     let e = c .before .certify .ensures in
     let a = returned (c .counted .ok) (c .counted .ensures) ∙ ap (coded (λ (n : ℕ). n)) e in
-    (a, told-counted (c .before .certify .result) e a)
+    (a, told-counted (lit≤ tt) (certify-by layout32 standard _) (c .before .certify .result) e a)
 
 pub fieldmap-certify-spec : {M : Type 1} → statement M
 fieldmap-certify-spec = tie.close (tie.spec (search needs) counted-requires returns)

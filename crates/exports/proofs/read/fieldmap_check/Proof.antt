@@ -2,11 +2,13 @@
 use Prim.Native.Nat.{ℕ}
 use mathlib.Core.Path.{_∙_, sym, ap}
 use native.Mathlib.Omega.{arith}
+use lib.Dec.{lit≤}
 use borrow.Author.Needs.{needs}
 use Rattle.format.specs.Layout.{layout32, standard}
 use Rattle.exports.proofs.Numbers.{count-fits}
 use Rattle.codes.specs.Answers.{coded}
 use Rattle.codes.proofs.Coded.{told-counted, returned}
+use Rattle.format.specs.Laws.Check.Refusals.{check-by}
 use Rattle.exports.proofs.read.fieldmap_check.Statement.{statement}
 use Rattle.exports.proofs.read.fieldmap_check.Tie as tie
 
@@ -19,7 +21,7 @@ returns : tie.Need-returns
 returns c =
     let e = c .before .check .ensures in
     let a = returned (c .counted .ok) (c .counted .ensures) ∙ ap (coded (λ (n : ℕ). n)) e in
-    (a, told-counted (c .before .check .result) e a)
+    (a, told-counted (lit≤ tt) (check-by layout32 standard _) (c .before .check .result) e a)
 
 pub fieldmap-check-spec : {M : Type 1} → statement M
 fieldmap-check-spec = tie.close (tie.spec (search needs) counted-requires returns)

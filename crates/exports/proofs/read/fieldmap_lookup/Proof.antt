@@ -1,9 +1,12 @@
 -- `exports::read::fieldmap_lookup` meets its contract. Assumes nothing.
 use mathlib.Core.Path.{refl, _∙_, sym, ap}
+use lib.Dec.{lit≤}
 use borrow.Author.Needs.{needs}
+use Rattle.format.specs.Layout.{layout32, standard}
 use Rattle.readers.specs.Answers.{lookupOf}
 use Rattle.codes.specs.Answers.{foundFlag, entryValue, entryPosition}
 use Rattle.codes.proofs.Coded.{answers-given, answers-refused, found-stored, nothing-stored, refused-stored}
+use Rattle.fieldmap.specs.Refusals.{lookup-by}
 use Rattle.exports.proofs.read.fieldmap_lookup.Statement.{statement}
 use Rattle.exports.proofs.read.fieldmap_lookup.Tie as tie
 
@@ -11,7 +14,7 @@ returns : tie.Need-returns
 returns c =
     let told : tie.After-why = search in
     let e = sym (told .before .before .lookup .ensures) ∙ ap lookupOf (told .why .given .1) in
-    answers-refused foundFlag (told .why .given .0 .0) e (c .refused .ok) (c .refused .ensures)
+    answers-refused foundFlag (lit≤ tt) (lookup-by layout32 standard _ _) (told .why .given .0 .0) e (c .refused .ok) (c .refused .ensures)
     (refused-stored entryValue _ e, refused-stored entryPosition _ e)
 
 returns-2 : tie.Need-returns-2

@@ -1,11 +1,13 @@
 -- `exports::read::fieldmap_lookup_bytes` meets its contract. Assumes nothing.
 use mathlib.Core.Path.{refl, _∙_, sym, ap}
+use lib.Dec.{lit≤}
 use borrow.Author.Needs.{needs}
 use Rattle.readers.specs.Answers.{lookupOf}
 use Rattle.format.specs.Layout.{layout32, standard}
 use Rattle.codes.specs.Answers.{partLength, entryPosition}
 use Rattle.codes.proofs.Coded.{answers-given, answers-refused, returned, no-bytes}
 use Rattle.codes.proofs.Coded.{found-stored, nothing-stored, refused-stored, found-part, nothing-part, refused-part}
+use Rattle.fieldmap.specs.Refusals.{lookup-by}
 use Rattle.exports.proofs.read.fieldmap_lookup_bytes.Statement.{statement}
 use Rattle.exports.proofs.read.fieldmap_lookup_bytes.Tie as tie
 
@@ -14,7 +16,7 @@ returns c =
     let told : tie.After-fault = search in
     let why = told .fault .given .0 .0 in
     let e = sym (told .before .before .lookup .ensures) ∙ ap lookupOf (told .fault .given .1) in
-    answers-refused partLength why e (c .refused .ok) (c .refused .ensures)
+    answers-refused partLength (lit≤ tt) (lookup-by layout32 standard _ _) why e (c .refused .ok) (c .refused .ensures)
     (refused-stored entryPosition _ e, no-bytes why _ (returned (c .refused .ok) (c .refused .ensures)) ∙ sym (refused-part layout32 standard _ _ e))
 
 returns-2 : tie.Need-returns-2

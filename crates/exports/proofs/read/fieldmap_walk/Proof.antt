@@ -1,12 +1,14 @@
 -- `exports::read::fieldmap_walk` meets its contract. Assumes nothing.
 use mathlib.Core.Path.{_∙_, sym, ap}
 use native.Mathlib.Omega.{arith}
+use lib.Dec.{lit≤}
 use borrow.Author.Needs.{needs}
 use Rattle.format.specs.Layout.{layout32, standard}
 use Rattle.exports.proofs.Numbers.{walk-fits}
 use Rattle.readers.specs.Answers.{walkOf}
 use Rattle.codes.specs.Answers.{walkWritten, walkCount}
 use Rattle.codes.proofs.Coded.{answers-given, answers-refused, returned, store-given, store-refused}
+use Rattle.fieldmap.specs.Refusals.{walk-by}
 use Rattle.exports.proofs.read.fieldmap_walk.Statement.{statement}
 use Rattle.exports.proofs.read.fieldmap_walk.Tie as tie
 
@@ -23,7 +25,7 @@ returns c =
     let call : tie.After-walk = search in
     let (answer, lists) = call .walk .ensures in
     let e = sym answer ∙ ap walkOf (c .before .before .why .given .1) in
-    answers-refused walkWritten (c .before .before .why .given .0 .0) e (c .refused .ok) (c .refused .ensures)
+    answers-refused walkWritten (lit≤ tt) (walk-by layout32 standard _ _ _) (c .before .before .why .given .0 .0) e (c .refused .ok) (c .refused .ensures)
     (lists .0, (lists .1, store-refused walkCount _ e))
 
 returns-2 : tie.Need-returns-2

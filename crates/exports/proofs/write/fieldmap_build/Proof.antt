@@ -2,11 +2,13 @@
 use Prim.Native.Nat.{ℕ}
 use mathlib.Core.Path.{_∙_, sym, ap}
 use native.Mathlib.Omega.{arith}
+use lib.Dec.{lit≤}
 use borrow.Author.Needs.{needs}
-use Rattle.format.specs.Layout.{standard}
-use Rattle.exports.proofs.Numbers.{build-fits}
+use Rattle.format.specs.Layout.{layout32, standard}
+use Rattle.format.specs.Laws.Build.Lengths.{build-most}
 use Rattle.builder.specs.Answers.{builtOf}
 use Rattle.codes.proofs.Coded.{answers-given, answers-refused, returned}
+use Rattle.fieldmap.specs.Refusals.{build-by}
 use Rattle.exports.proofs.write.fieldmap_build.Statement.{statement}
 use Rattle.exports.proofs.write.fieldmap_build.Tie as tie
 
@@ -15,9 +17,8 @@ unfolding standard
 given-requires c κs =
     let call : tie.After-build = search in
     let told : tie.After-end = search in
-    let known : tie.After-shared-slice-known2 = search in
     let e = sym (call .build .ensures .0) ∙ ap builtOf (told .end .given .1) in
-    omega (arith, build-fits _ _ _ _ _ (λ i. known .before .shared-slice-known .given i .fits) (λ i. known .shared-slice-known2 .given i .fits) e)
+    omega (arith, build-most layout32 _ _ _ _ _ e)
 
 returns : tie.Need-returns
 returns c =
@@ -32,7 +33,7 @@ returns-2 c =
     let call : tie.After-build = search in
     let (answer, output) = call .build .ensures in
     let e = sym answer ∙ ap builtOf (c .before .before .why .given .1) in
-    answers-refused (λ (n : ℕ). n) (c .before .before .why .given .0 .0) e (c .refused .ok) (c .refused .ensures) output
+    answers-refused (λ (n : ℕ). n) (lit≤ tt) (build-by layout32 (lit≤ tt) (lit≤ tt) (lit≤ tt) _ _ _ _) (c .before .before .why .given .0 .0) e (c .refused .ok) (c .refused .ensures) output
 
 pub fieldmap-build-spec : {M : Type 1} → statement M
 fieldmap-build-spec =

@@ -2,11 +2,13 @@
 use Prim.Native.Nat.{ℕ}
 use mathlib.Core.Path.{_∙_, sym, ap}
 use native.Mathlib.Omega.{arith}
+use lib.Dec.{lit≤}
 use borrow.Author.Needs.{needs}
-use Rattle.format.specs.Layout.{standard}
-use Rattle.exports.proofs.Numbers.{length-fits}
+use Rattle.format.specs.Layout.{layout32, standard}
+use Rattle.format.specs.Laws.Build.Lengths.{length-most}
 use Rattle.builder.specs.Answers.{builtOf}
 use Rattle.codes.proofs.Coded.{code-given, code-refused, told-given, told-refused, returned}
+use Rattle.fieldmap.specs.Refusals.{length-up-to}
 use Rattle.exports.proofs.write.fieldmap_build_length.Statement.{statement}
 use Rattle.exports.proofs.write.fieldmap_build_length.Tie as tie
 
@@ -15,7 +17,7 @@ unfolding standard
 given-requires c κs =
     let call : tie.After-build-length = search in
     let told : tie.After-end = search in
-    omega (arith, length-fits _ _ _ (sym (call .build-length .ensures) ∙ ap builtOf (told .end .given .1)))
+    omega (arith, length-most layout32 _ _ _ (sym (call .build-length .ensures) ∙ ap builtOf (told .end .given .1)))
 
 returns : tie.Need-returns
 returns c =
@@ -30,7 +32,7 @@ returns-2 c =
     let call : tie.After-build-length = search in
     let e = sym (call .build-length .ensures) ∙ ap builtOf (c .before .before .why .given .1) in
     let r = returned (c .refused .ok) (c .refused .ensures) in
-    (code-refused (λ (n : ℕ). n) e r, told-refused (c .before .before .why .given .0 .0) e r)
+    (code-refused (λ (n : ℕ). n) e r, told-refused (lit≤ tt) (length-up-to layout32 (lit≤ tt) (lit≤ tt) (lit≤ tt) _ _) (c .before .before .why .given .0 .0) e r)
 
 pub fieldmap-build-length-spec : {M : Type 1} → statement M
 fieldmap-build-length-spec =

@@ -155,3 +155,7 @@ module _ (L : Layout) (ks vs : List ℕ) (h : ℕ) where
   length-given room n e =
       let T = taken L ks vs h room n e in
       sym (by-length (T .lengths) (T .ascends) room (omega (arith, T .fits, T .size))) ∙ e
+
+  -- So no build ends past the limit of a check.
+  pub build-most : (room n : ℕ) → build L ks vs h room ≡ gives n → n ≤ standard .longest
+  build-most room n e = length-most L (length ks) h n (length-given room n e)
