@@ -26,7 +26,6 @@ use Rattle.format.specs.Laws.Numbers.Align.{step-aligned}
 use Rattle.format.specs.Laws.Numbers.Bytes.{length-leBytes}
 use Rattle.format.specs.Laws.Numbers.Widths.{bytes-some}
 use Rattle.format.specs.Laws.Check.Complete.{pass, complete}
-use Rattle.format.specs.Weight.{upper, room}
 use Rattle.format.specs.Laws.Build.Filling.{fill-flat, fill-took, BranchDone, fill-done, fill-depth}
 use Rattle.format.specs.Laws.Build.Height.{Fitting, fitting}
 use Rattle.format.specs.Laws.Build.ReadBack.{tree-laid}

@@ -1,7 +1,7 @@
 -- What the documents say of the builder, over every layout of 3 to 15 entries a node: whatever strictly ascending list a build takes, behind whatever
 -- header, the archive is certified and its list has the given keys and values; 16 arises exactly where the root's first offset does not fit the width,
 -- so with 32 and 64 bits never. Assumes nothing.
-use Prim.Native.Nat.{ℕ, zero, suc, _+_, _-_, _^_, _≤_, _<_}
+use Prim.Native.Nat.{ℕ, _+_, _-_, _^_, _≤_}
 use mathlib.Core.Path.{_≡_, sym, ap, _∙_}
 use mathlib.Core.Bool.{Bool, true}
 use mathlib.Core.List.{List, [], _∷_, map}
@@ -9,7 +9,6 @@ use native.Mathlib.Omega.{arith}
 use lib.ListN.{length, length-append}
 use lib.Dec.{leb, eqb, lit≤}
 use borrow.Author.Tests.{leb-true, eqb-true, le-leb}
-use Rattle.format.specs.declared.Entry.{Entry}
 use Rattle.format.specs.Layout.{Width, two, four, eight, bytes, Layout, signBits, pointer, standard, nested}
 use Rattle.format.specs.Refusal.{gives, provided}
 use Rattle.format.specs.Bytes.{AllWords}

@@ -1,7 +1,7 @@
 -- Refusal 16 is decided by one number: the width holds all offsets of an archive exactly if it holds the root's first one. Assumes nothing.
-use Prim.Native.Nat.{ℕ, zero, suc, _+_, _-_, _*_, _^_, _≤_, _<_, min}
+use Prim.Native.Nat.{ℕ, _+_, _-_, _*_, _^_, _≤_, _<_, min}
 use mathlib.Core.Path.{_≡_, refl, sym, ap, _∙_, subst}
-use mathlib.Core.Bool.{Bool, true, false, _&&_}
+use mathlib.Core.Bool.{Bool, true, false}
 use mathlib.Core.List.{List, [], _∷_}
 use native.Mathlib.Omega.{arith}
 use lib.IntN.{negsuc}
@@ -25,7 +25,7 @@ use Rattle.format.specs.Laws.Build.NodeBytes.{top-in}
 use Rattle.format.specs.Laws.Build.BytesAt.{offset-fits, absent-fits, bits-least}
 use Rattle.format.specs.Laws.Build.Built.{tree-of}
 use Rattle.format.specs.Laws.Build.Near.{FullT, FullBranches, FullBranch, Near, FieldsNear, TreeNear, BranchesNear, BranchNear, inner-room, own-most}
-use Rattle.format.specs.Laws.Build.Near.{top-own, farB, farT, farOf, FirstT, FirstB, First, first-branch}
+use Rattle.format.specs.Laws.Build.Near.{top-own, farB, farOf, FirstB, First, first-branch}
 use Rattle.format.specs.Laws.Build.Farthest.{fill-first, far-is}
 
 -- An offset that leads too far back.

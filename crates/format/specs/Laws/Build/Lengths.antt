@@ -1,6 +1,6 @@
 -- An archive's length and refusal 16 go by the number of entries alone: for every list and every layout a build ends where `buildLength` says, and is
 -- refused by 24, 11, 13 and 16 where `buildLength` is. Assumes nothing.
-use Prim.Native.Nat.{ℕ, zero, suc, _+_, _-_, _*_, _^_, _≤_, _<_}
+use Prim.Native.Nat.{ℕ, _+_, _-_, _*_, _^_, _≤_, _<_}
 use mathlib.Core.Path.{_≡_, refl, sym, ap, ap₂, _∙_}
 use mathlib.Core.Bool.{Bool, true, false}
 use mathlib.Core.List.{List, [], _∷_}

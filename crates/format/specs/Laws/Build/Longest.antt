@@ -1,6 +1,6 @@
 -- In every layout of 3 to 15 entries a node, 40,000 entries have at most 8 levels, and with a header of 4,096 bytes they make no archive that the check
 -- finds too long. Assumes nothing.
-use Prim.Native.Nat.{ℕ, zero, suc, _+_, _-_, _*_, _/_, _%_, _≤_, _<_, min}
+use Prim.Native.Nat.{ℕ, zero, suc, _+_, _-_, _*_, _/_, _≤_, _<_, min}
 use mathlib.Core.Path.{_≡_, sym, ap, _∙_, subst}
 use mathlib.Core.List.{List}
 use native.Mathlib.Omega.{arith}
@@ -10,7 +10,7 @@ use lib.ListN.{length, length-append}
 use Rattle.format.specs.Layout.{Width, two, four, eight, bytes, Layout, pointer, leafSize, innerSize, standard}
 use Rattle.format.specs.Tree.{Branch, noneB, someB, lengthBranch, KeyValue}
 use Rattle.format.specs.Build.{logFrom, height, lastLevel, treeOf, start, behind, archive}
-use Rattle.format.specs.Weight.{upper, weight, innersOver, up, sizeBy, reach, firstOwn}
+use Rattle.format.specs.Weight.{upper, weight, innersOver, up, reach, firstOwn}
 use Rattle.format.specs.Laws.Numbers.Align.{zeros-lt}
 use Rattle.format.specs.Laws.Numbers.Widths.{bytes-some, bytes-few}
 use Rattle.format.specs.Laws.Build.Near.{leaf-inner}

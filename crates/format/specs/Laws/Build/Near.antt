@@ -1,8 +1,7 @@
 -- How far back the offsets of a tree lead: never further than the tree is long; and no further than the root's first offset, where from the root down the
 -- first children each node's first offset leads no further than the one above it. Assumes nothing.
-use Prim.Native.Nat.{ℕ, zero, suc, _+_, _*_, _/_, _≤_, _<_}
+use Prim.Native.Nat.{ℕ, suc, _+_, _*_, _/_, _≤_, _<_}
 use mathlib.Core.Path.{_≡_, refl, ap}
-use mathlib.Core.List.{List, [], _∷_}
 use native.Mathlib.Omega.{arith}
 use lib.ListN.{length}
 use Rattle.format.specs.declared.Child.{Child}
@@ -82,7 +81,7 @@ module _ (L : Layout) where
       by : (a p e : ℕ) → (a + p + 7) / 8 * 8 ≤ (a + p * suc e + 7) / 8 * 8
       by a p e = omega arith
 
-  pub own-long : (t : Tree) → pointer L * L .entries < ownT t
+  own-long : (t : Tree) → pointer L * L .entries < ownT t
   own-long (leafT es) = leaf-long
   own-long (innerT bs) = omega (arith, leaf-long, leaf-inner)
 
@@ -106,7 +105,7 @@ module _ (L : Layout) where
       (branch-near D b p f (omega arith) (omega arith), fields-near D bs (p + lengthBranch L b) (f + pointer L) (omega arith) (omega arith))
 
   mutual
-    pub tree-near : (D : ℕ) (t : Tree) (p : ℕ) → FullT t → lengthT L t ≤ D → TreeNear D t p
+    tree-near : (D : ℕ) (t : Tree) (p : ℕ) → FullT t → lengthT L t ≤ D → TreeNear D t p
     tree-near D (leafT es) p w h = tt
     tree-near D (innerT bs) p w h =
         let e : pointer L * length (own bs) ≡ pointer L * L .entries = ap (λ (n : ℕ). pointer L * n) (w .0) in (
@@ -129,7 +128,7 @@ module _ (L : Layout) where
   farB (lastB b) = 0
   farB (moreB b e bs) = ownB b + lengthBranches L bs + headSize L
 
-  abbrev pub farT : Tree → ℕ
+  abbrev farT : Tree → ℕ
   farT (leafT es) = 0
   farT (innerT bs) = farB bs
 
@@ -139,7 +138,7 @@ module _ (L : Layout) where
 
   -- From the root down the first children, which are there, it leads no further.
   abbrev mutual
-    pub FirstT : Tree → Type 0
+    FirstT : Tree → Type 0
     FirstT (leafT es) = Unit {0}
     FirstT (innerT bs) = FirstB bs
 

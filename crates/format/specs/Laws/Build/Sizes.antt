@@ -1,17 +1,17 @@
 -- The formula gives the bytes of a filled subtree, over every layout: the last level's leaves, their parents, the leaves beside those, and the nodes
 -- above. Assumes nothing.
-use Prim.Native.Nat.{ℕ, zero, suc, _+_, _-_, _*_, _/_, _%_, _≤_, _<_, min}
+use Prim.Native.Nat.{ℕ, zero, suc, _+_, _-_, _*_, _/_, _≤_, _<_, min}
 use mathlib.Core.Path.{_≡_, refl, sym, ap, ap₂, _∙_}
 use native.Mathlib.Omega.{arith}
 use native.Mathlib.Decide.{decLt}
-use native.Mathlib.Nat.{mul-zero, mul-suc, mul-one, mul-le-mul-right, div-add-mod', mod-lt, div-eq-of-lt, add-mul-div-left, mul-assoc, mul-comm, mul-pos}
+use native.Mathlib.Nat.{mul-zero, mul-suc, mul-one, mul-le-mul-right, div-add-mod', div-eq-of-lt, add-mul-div-left, mul-assoc, mul-comm, mul-pos}
 use Rattle.format.specs.Layout.{Layout, leafSize, innerSize}
 use Rattle.format.specs.Weight.{weighs, upper, room, weight, innersOver, up, sizeBy}
 
-pub up-zero : (k : ℕ) → 0 < k → up 0 k ≡ 0
+up-zero : (k : ℕ) → 0 < k → up 0 k ≡ 0
 up-zero k h = div-eq-of-lt {n = 0 + (k - 1)} {m = k} (omega arith)
 
-pub up-more : (x k y : ℕ) → 0 < k → up (x + k * y) k ≡ up x k + y
+up-more : (x k y : ℕ) → 0 < k → up (x + k * y) k ≡ up x k + y
 up-more x k y h =
     let e : x + k * y + (k - 1) ≡ x + (k - 1) + k * y = omega arith in
     ap (λ (n : ℕ). n / k) e ∙ add-mul-div-left (x + (k - 1)) y {y = k} h
@@ -33,7 +33,7 @@ up-most x k j h l = by (decLt j (up x k))
         let c : k * j ≡ j * k = mul-comm k j in
         absurd (omega (arith, d, m, c, l, h))
 
-pub up-one : (x k : ℕ) → 0 < x → x ≤ k → up x k ≡ 1
+up-one : (x k : ℕ) → 0 < x → x ≤ k → up x k ≡ 1
 up-one zero k a l = absurd (omega arith)
 up-one (suc x) k a l =
     let e : suc x + (k - 1) ≡ x + k * 1 = omega (arith, mul-one k) in
@@ -132,7 +132,7 @@ module _ (L : Layout) (some : 0 < L .entries) where
       by : (e u : ℕ) → suc (suc e * u + e) ≡ suc u * suc e
       by e u = omega arith
 
-  pub room-power : (l : ℕ) → room L l ≡ L .entries * suc (upper L l)
+  room-power : (l : ℕ) → room L l ≡ L .entries * suc (upper L l)
   room-power zero = sym (mul-one (L .entries))
   room-power (suc l) =
       ap (λ (x : ℕ). suc (L .entries) * x) (room-power l) ∙ by (L .entries) (suc (upper L l)) ∙ ap (λ (x : ℕ). L .entries * x) (sym (power-more l))

@@ -12,7 +12,7 @@ use Rattle.format.specs.Layout.{Layout}
 use Rattle.format.specs.Refusal.{Answer, gives, refuses, provided}
 use Rattle.format.specs.Offsets.{archiveEmplaces}
 use Rattle.format.specs.Build.{treeOf, start, behind, archive, pairs, rises, entriesInRange, build, outBy, outAfter}
-use Rattle.format.specs.Built.{Taken}
+use Rattle.format.specs.Built.{Taken, LayoutTakes}
 use Rattle.format.specs.Laws.Numbers.Tests.{and-true}
 use Rattle.format.specs.Laws.Build.Given.{length-pairs}
 
@@ -49,13 +49,7 @@ module _ (L : Layout) (ks vs : List ℕ) (h : ℕ) where
   abbrev fits : Bool
   fits = archiveEmplaces L (treeOf L (pairs ks vs)) (start L (treeOf L (pairs ks vs)) h)
 
-  -- What 24 and 16 let through.
-  pub record LayoutTakes : Type 0 where
-    pub least : 3 ≤ L .entries
-    pub most : L .entries ≤ 15
-    pub offsets : archiveEmplaces L (treeOf L (pairs ks vs)) (start L (treeOf L (pairs ks vs)) h) ≡ true
-
-  both : (out n : ℕ) → build L ks vs h out ≡ gives n → LayoutTakes × Taken L ks vs h out n
+  both : (out n : ℕ) → build L ks vs h out ≡ gives n → LayoutTakes L ks vs h × Taken L ks vs h out n
   unfolding build
   both out n e =
       let (e₀, a₀) = provided-inv (entriesInRange L) _ _ e in
@@ -81,7 +75,7 @@ module _ (L : Layout) (ks vs : List ℕ) (h : ℕ) where
   pub taken : (out n : ℕ) → build L ks vs h out ≡ gives n → Taken L ks vs h out n
   taken out n e = both out n e .1
 
-  pub layout-takes : (out n : ℕ) → build L ks vs h out ≡ gives n → LayoutTakes
+  pub layout-takes : (out n : ℕ) → build L ks vs h out ≡ gives n → LayoutTakes L ks vs h
   layout-takes out n e = both out n e .0
 
   -- What 24 and 10 to 14 let through is refused by 16 alone.
@@ -93,7 +87,7 @@ module _ (L : Layout) (ks vs : List ℕ) (h : ℕ) where
       ∙ passes (T .ascends) _ _ ∙ passes (le-leb h 4096 (T .header)) _ _ ∙ passes (le-leb end out (omega (arith, T .fits, T .size))) _ _
       ∙ ap (λ (x : ℕ). provided fits 16 (gives x)) (sym (T .size))
 
-  pub taken-gives : (out n : ℕ) → LayoutTakes → Taken L ks vs h out n → build L ks vs h out ≡ gives n
+  pub taken-gives : (out n : ℕ) → LayoutTakes L ks vs h → Taken L ks vs h out n → build L ks vs h out ≡ gives n
   taken-gives out n A T = only-16 out n (A .least) (A .most) T ∙ passes (A .offsets) _ _
 
   -- ---- the output

@@ -91,9 +91,6 @@ module _ (L : Layout) (M : Limits) (s : List ℕ) where
     pub room-for : recordSize L ≤ length s
     room-for = arch .room
 
-    pub not-long : length s ≤ M .longest
-    not-long = arch .small
-
     pub lookup-accepted : (k : ℕ) → lookupCall L M s k ≡ gives (lookup L M s k)
     unfolding lookupCall
     lookup-accepted k = rw (accepts, lookupCall)
