@@ -26,7 +26,7 @@ module _ (L : Layout) where
   weight (suc zero) (suc m) = weighs (weight zero) (room 0) (suc (L .entries)) (suc m) + innerSize L
   weight (suc (suc h)) m = weighs (weight (suc h)) (room (suc h)) (suc (L .entries)) m + innerSize L
 
-  -- The first child of a root with h + 1 levels above the last one is a leaf only where h is 0.
+  -- The bytes of the own node of a root's first child, where that child has h levels above the last one: a leaf only on the last one.
   abbrev pub firstOwn : ℕ → ℕ
   firstOwn zero = leafSize L
   firstOwn (suc h) = innerSize L
@@ -36,14 +36,14 @@ module _ (L : Layout) where
   reach zero m = 0
   reach (suc h) m = firstOwn h + (weight (suc h) m - innerSize L - weight h m) + headSize L
 
-  -- The inner nodes that have h levels of inner nodes below them.
+  -- The inner nodes of a subtree with h levels of inner nodes.
   abbrev pub innersOver : ℕ → ℕ
   innersOver zero = 0
   innersOver (suc h) = suc (L .entries) * innersOver h + 1
 
 -- ---- the formula
 
--- As many as t entries need where each takes up to k.
+-- How many parts of k entries t entries make, the last part not always full.
 abbrev pub up : ℕ → ℕ → ℕ
 up t k = (t + (k - 1)) / k
 

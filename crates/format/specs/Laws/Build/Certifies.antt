@@ -35,7 +35,7 @@ bits-wide eight l = lit≤ tt
 module _ (L : Layout) (least : 3 ≤ L .entries) (most : L .entries ≤ 15) where
   -- ---- refusal 16
 
-  -- By the number of entries.
+  -- The number of entries decides it.
   pub emplaces-by : (es : List KeyValue) (h : ℕ) → h ≤ 4096 → length es ≤ 40000
       → let n = length es in
       archiveEmplaces L (treeOf L es) (start L (treeOf L es) h) ≡ leb (reach L (height L n - 1) (lastLevel L n)) (2 ^ signBits (L .width))

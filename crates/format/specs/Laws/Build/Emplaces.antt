@@ -28,7 +28,7 @@ use Rattle.format.specs.Laws.Build.Near.{FullT, FullBranches, FullBranch
 use Rattle.format.specs.Laws.Build.Near.{top-own, farB, farOf, FirstB, First, first-branch}
 use Rattle.format.specs.Laws.Build.Farthest.{fill-first, far-is}
 
--- An offset that leads too far back.
+-- A position further back than h bits and a sign reach.
 far-refused : (h f q : ℕ) → q < f → 2 ^ h < f - q → f < 2 ^ 63 → isGiven (storedOffset h f q) ≡ false
 far-refused h f q l far short =
     let m = f - q - 1 in

@@ -14,7 +14,7 @@ use Rattle.format.specs.Laws.Build.Filling.{Took, fill-took}
 use Rattle.format.specs.Laws.Build.Weight.{whole, weighs-le, weighs-ge, weight-le, weight-ge, branches-weigh, fill-weighs}
 
 module _ (L : Layout) where
-  -- The first child of a node that is filled, and what stands beside it.
+  -- A filled node's children as the first one and the others, which take `rest` bytes.
   record Split (b : Branch) (rest : ℕ) (r : FilledBranches) : Type 0 where
     entry : KeyValue
     others : Branches
@@ -78,7 +78,7 @@ module _ (L : Layout) where
   firsts : {b : Branch} {x : ℕ} {r : FilledBranches} → Split b x r → farOf L b ≤ ownB L b + x + headSize L → First L b → FirstB L (r .branches)
   firsts {b} S l s = subst (FirstB L) (sym (S .is)) (omega (arith, S .long), s)
 
-  -- From the root of the tree down the first children it leads no further.
+  -- No first offset on the way down the first children leads further than the one above it.
   pub fill-first : (h m : ℕ) (es : List KeyValue) → 0 < L .entries → upper L h + min m (room L h) ≤ length es → 0 < m + h → First L (fill L h m es .branch)
   unfolding fill
   fill-first zero zero es some l d = absurd (omega arith)

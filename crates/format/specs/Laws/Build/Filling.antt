@@ -50,22 +50,35 @@ module _ (L : Layout) where
     pub left : length (r .rest) + (suc n * q + n + min m (suc n * c)) ≡ length es
     pub last : r .last + min m (suc n * c) ≡ m
 
+  -- Filling the n + 1 children of an inner node, one after the other, as an induction: the entries are enough for each child and the entry after it.
   module _ (give : ℕ → List KeyValue → Filled) (q c : ℕ) (took : (m : ℕ) (es : List KeyValue) → q + min m c ≤ length es → Took q c m es (give m es)) where
-    next-took : (n m : ℕ) (es : List KeyValue) (g : Filled) → Took q c m es g → (l : List KeyValue) → l ≡ g .rest
-        → suc (suc n) * q + suc n + min m (suc (suc n) * c) ≤ length es
-        → (go : ℕ → List KeyValue → FilledBranches)
-        → ((es : List KeyValue) → suc n * q + n + min (g .last) (suc n * c) ≤ length es → TookAll n q c (g .last) es (go (g .last) es))
-        → TookAll (suc n) q c m es (fillNext go g l)
-    next-took n m es g D [] e l go rec = absurd (omega (arith, D .left, ap length e))
-    next-took n m es g D (x ∷ xs) e l go rec =
-        let el = ap length e in
-        let r = rec xs (omega (arith, D .left, D .last, el)) in
-        record { left = omega (arith, r .left, D .left, D .last, el); last = omega (arith, r .last, D .last) }
+    module _ (P : ℕ → ℕ → List KeyValue → FilledBranches → Type 0)
+        (one : (m : ℕ) (es : List KeyValue) → q + min m c ≤ length es → P 0 m es (fillBranches give 0 m es))
+        (more : (n m : ℕ) (es : List KeyValue) (x : KeyValue) (xs : List KeyValue) → q + min m c ≤ length es → x ∷ xs ≡ give m es .rest
+        → P n (give m es .last) xs (fillBranches give n (give m es .last) xs) → P (suc n) m es (fillNext (fillBranches give n) (give m es) (x ∷ xs))) where
+      next : (n m : ℕ) (es : List KeyValue) → Took q c m es (give m es) → suc (suc n) * q + suc n + min m (suc (suc n) * c) ≤ length es
+          → ((es′ : List KeyValue) → suc n * q + n + min (give m es .last) (suc n * c) ≤ length es′
+          → P n (give m es .last) es′ (fillBranches give n (give m es .last) es′))
+          → (l : List KeyValue) → l ≡ give m es .rest → P (suc n) m es (fillNext (fillBranches give n) (give m es) l)
+      next n m es T l rec [] e = absurd (omega (arith, T .left, ap length e))
+      next n m es T l rec (x ∷ xs) e = more n m es x xs (omega arith) e (rec xs (omega (arith, T .left, T .last, ap length e)))
+
+      pub branches-by : (n m : ℕ) (es : List KeyValue) → suc n * q + n + min m (suc n * c) ≤ length es → P n m es (fillBranches give n m es)
+      branches-by zero m es l = one m es (omega arith)
+      branches-by (suc n) m es l = next n m es (took m es (omega arith)) l (branches-by n (give m es .last)) (give m es .rest) refl
 
     pub branches-took : (n m : ℕ) (es : List KeyValue) → suc n * q + n + min m (suc n * c) ≤ length es → TookAll n q c m es (fillBranches give n m es)
-    branches-took zero m es l = let r = took m es (omega arith) in record { left = omega (arith, r .left); last = omega (arith, r .last) }
-    branches-took (suc n) m es l =
-        next-took n m es (give m es) (took m es (omega arith)) (give m es .rest) refl l (fillBranches give n) (branches-took n (give m es .last))
+    branches-took = branches-by (λ n m es r. TookAll n q c m es r) one more
+      where
+        one : (m : ℕ) (es : List KeyValue) → q + min m c ≤ length es → TookAll 0 q c m es (fillBranches give 0 m es)
+        one m es l = let T = took m es l in record { left = omega (arith, T .left); last = omega (arith, T .last) }
+
+        more : (n m : ℕ) (es : List KeyValue) (x : KeyValue) (xs : List KeyValue) → q + min m c ≤ length es → x ∷ xs ≡ give m es .rest
+            → TookAll n q c (give m es .last) xs (fillBranches give n (give m es .last) xs)
+            → TookAll (suc n) q c m es (fillNext (fillBranches give n) (give m es) (x ∷ xs))
+        more n m es x xs l e r =
+            let T = took m es l in
+            record { left = omega (arith, r .left, T .left, T .last, ap length e); last = omega (arith, r .last, T .last) }
 
   inner-took : (q c m : ℕ) (es : List KeyValue) (r : FilledBranches) → TookAll (L .entries) q c m es r
       → Took (suc (L .entries) * q + L .entries) (suc (L .entries) * c) m es (closed r)
@@ -111,30 +124,25 @@ module _ (L : Layout) where
 
   module _ (give : ℕ → List KeyValue → Filled) (h q c : ℕ) (took : (m : ℕ) (es : List KeyValue) → q + min m c ≤ length es → Took q c m es (give m es))
       (ih : (m : ℕ) (es : List KeyValue) → q + min m c ≤ length es → BranchDone h m es (give m es)) where
-    next-done : (n m : ℕ) (es : List KeyValue) (g : Filled) → Took q c m es g → BranchDone h m es g → (l : List KeyValue) → l ≡ g .rest
-        → suc (suc n) * q + suc n + min m (suc (suc n) * c) ≤ length es
-        → (go : ℕ → List KeyValue → FilledBranches)
-        → ((es : List KeyValue) → suc n * q + n + min (g .last) (suc n * c) ≤ length es → BranchesDone h n (g .last) es (go (g .last) es))
-        → BranchesDone h (suc n) m es (fillNext go g l)
-    next-done n m es g T D [] e l go rec = absurd (omega (arith, T .left, ap length e))
-    next-done n m es g T D (x ∷ xs) e l go rec =
-        let fits : AllFit es → AllFit (x ∷ xs) = λ f. subst AllFit (sym e) (D .fit f) in
-        let r = rec xs (omega (arith, T .left, T .last, ap length e)) in
-        record {
-          count = ap suc (r .count);
-          full = (D .full, r .full);
-          starts = D .starts;
-          wf = λ f. (D .wf f, fits f .0, r .wf (fits f .1));
-          fit = λ f. r .fit (fits f .1);
-        }
-
     branches-done : (n m : ℕ) (es : List KeyValue) → suc n * q + n + min m (suc n * c) ≤ length es → BranchesDone h n m es (fillBranches give n m es)
-    branches-done zero m es l =
-        let r = ih m es (omega arith) in
-        record { count = refl; full = r .full; starts = r .starts; wf = r .wf; fit = r .fit }
-    branches-done (suc n) m es l =
-        next-done n m es (give m es) (took m es (omega arith)) (ih m es (omega arith)) (give m es .rest) refl l (fillBranches give n)
-        (branches-done n (give m es .last))
+    branches-done = branches-by give q c took (λ n m es r. BranchesDone h n m es r) one more
+      where
+        one : (m : ℕ) (es : List KeyValue) → q + min m c ≤ length es → BranchesDone h 0 m es (fillBranches give 0 m es)
+        one m es l = let D = ih m es l in record { count = refl; full = D .full; starts = D .starts; wf = D .wf; fit = D .fit }
+
+        more : (n m : ℕ) (es : List KeyValue) (x : KeyValue) (xs : List KeyValue) → q + min m c ≤ length es → x ∷ xs ≡ give m es .rest
+            → BranchesDone h n (give m es .last) xs (fillBranches give n (give m es .last) xs)
+            → BranchesDone h (suc n) m es (fillNext (fillBranches give n) (give m es) (x ∷ xs))
+        more n m es x xs l e r =
+            let D = ih m es l in
+            let fits : AllFit es → AllFit (x ∷ xs) = λ f. subst AllFit (sym e) (D .fit f) in
+            record {
+              count = ap suc (r .count);
+              full = (D .full, r .full);
+              starts = D .starts;
+              wf = λ f. (D .wf f, fits f .0, r .wf (fits f .1));
+              fit = λ f. r .fit (fits f .1);
+            }
 
   -- A node over children of h levels.
   inner-done : (h m : ℕ) (es : List KeyValue) (r : FilledBranches) → 0 < m + h → BranchesDone h (L .entries) m es r → BranchDone (suc h) m es (closed r)

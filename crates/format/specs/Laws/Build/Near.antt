@@ -13,7 +13,7 @@ use Rattle.format.specs.Laws.Numbers.Widths.{bytes-some}
 use Rattle.format.specs.Laws.Build.NodeBytes.{top-in}
 
 module _ (L : Layout) where
-  -- Every inner node has as many entries as the layout says.
+  -- No slot of an inner node is free.
   abbrev mutual
     pub FullT : Tree → Type 0
     FullT (leafT es) = Unit {0}
@@ -123,7 +123,7 @@ module _ (L : Layout) where
 
   -- ---- no further than the root's first offset
 
-  -- How far the first offset of a tree's own node leads.
+  -- The distance of a node's first offset: over the node's other children, to the first child's own node.
   abbrev pub farB : Branches → ℕ
   farB (lastB b) = 0
   farB (moreB b e bs) = ownB b + lengthBranches L bs + headSize L

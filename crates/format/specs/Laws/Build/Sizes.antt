@@ -1,12 +1,14 @@
 -- The formula gives the bytes of a filled subtree, over every layout: the last level's leaves, their parents, the leaves beside those, and the nodes
 -- above. Assumes nothing.
 use Prim.Native.Nat.{ℕ, zero, suc, _+_, _-_, _*_, _/_, _≤_, _<_, min}
-use mathlib.Core.Path.{_≡_, refl, sym, ap, ap₂, _∙_}
+use mathlib.Core.Path.{_≡_, sym, ap, ap₂, _∙_}
 use native.Mathlib.Omega.{arith}
 use native.Mathlib.Decide.{decLt}
 use native.Mathlib.Nat.{mul-zero, mul-suc, mul-one, mul-le-mul-right, div-add-mod', div-eq-of-lt, add-mul-div-left, mul-assoc, mul-comm, mul-pos}
 use Rattle.format.specs.Layout.{Layout, leafSize, innerSize}
 use Rattle.format.specs.Weight.{weighs, upper, room, weight, innersOver, up, sizeBy}
+
+-- ---- parts of k entries
 
 up-zero : (k : ℕ) → 0 < k → up 0 k ≡ 0
 up-zero k h = div-eq-of-lt {n = 0 + (k - 1)} {m = k} (omega arith)
@@ -39,7 +41,10 @@ up-one (suc x) k a l =
     let e : suc x + (k - 1) ≡ x + k * 1 = omega (arith, mul-one k) in
     ap (λ (n : ℕ). n / k) e ∙ add-mul-div-left x 1 {y = k} (omega arith) ∙ ap (λ (n : ℕ). n + 1) (div-eq-of-lt {n = x} {m = k} (omega arith))
 
+-- ---- the formula of subtrees beside each other
+
 module _ (A B e : ℕ) (some : 0 < e) where
+  -- What a node over the last level takes there.
   abbrev K : ℕ
   K = e * suc e
 
@@ -49,7 +54,7 @@ module _ (A B e : ℕ) (some : 0 < e) where
   abbrev size : ℕ → ℕ → ℕ → ℕ
   size = sizeBy A B e
 
-  -- With the numbers of leaves and of their parents.
+  -- By the numbers of leaves, on the last level and over it, and of inner nodes.
   abbrev of : ℕ → ℕ → ℕ → ℕ
   of x d y = A * (x + d) + B * y
 
@@ -59,6 +64,7 @@ module _ (A B e : ℕ) (some : 0 < e) where
   join : (p x d q a b J Q : ℕ) → of (suc e * p) 0 (p + q) + of a J (b + Q) ≡ of (a + suc e * p) J (b + p + (Q + q))
   join p x d q a b J Q = omega arith
 
+  -- The last level's entries end in the first of two; or fill it.
   low : (m p q J Q : ℕ) → m ≤ K * p → size p q m + size J Q 0 ≡ size (J + p) (Q + q) m
   low m p q J Q h =
       let y = up m K in
@@ -107,6 +113,7 @@ module _ (A B e : ℕ) (some : 0 < e) where
   none : size 0 0 0 ≡ 0
   none = ap₂ (λ (a b : ℕ). A * (a + (0 - b)) + B * (b + 0)) (up-zero e some) (up-zero K many) ∙ omega arith
 
+  -- j of them that are alike.
   weighs-by : (p q : ℕ) (g : ℕ → ℕ) → ((m : ℕ) → g m ≡ size p q (min m (K * p))) → (j m : ℕ) → weighs g (K * p) j m ≡ size (p * j) (q * j) (min m (K * (p * j)))
   weighs-by p q g h zero m =
       let a = mul-zero p in
@@ -117,6 +124,8 @@ module _ (A B e : ℕ) (some : 0 < e) where
       let i : weighs g (K * p) j (m - K * p) ≡ size (p * j) (q * j) (min (m - K * p) (K * (p * j))) = weighs-by p q g h j (m - K * p) in
       ap₂ (λ (x y : ℕ). x + y) (h m) i ∙ step m p q (p * j) (q * j)
       ∙ ap₂ (λ (x y : ℕ). size x y (min m (K * x))) (sym (mul-suc p j)) (sym (mul-suc q j))
+
+-- ---- the levels
 
 module _ (L : Layout) (some : 0 < L .entries) where
   pub upper-inners : (l : ℕ) → upper L l ≡ L .entries * innersOver L l
@@ -146,15 +155,9 @@ module _ (L : Layout) (some : 0 < L .entries) where
       by : (e x : ℕ) → e * (x * suc e) ≡ e * suc e * x
       by e x = omega arith
 
-  leaf-is : (m : ℕ) → weight L 0 (suc m) ≡ leafSize L
-  unfolding weight
-  leaf-is m = refl
-
-  none-is : weight L 0 0 ≡ 0
-  unfolding weight
-  none-is = refl
-
+  -- The last level below one node.
   leaves-weigh : (j m : ℕ) → weighs (weight L 0) (L .entries) j m ≡ leafSize L * up (min m (L .entries * j)) (L .entries)
+  unfolding weight
   leaves-weigh zero m =
       let z : min m (L .entries * 0) ≡ 0 = omega (arith, mul-zero (L .entries)) in
       sym (ap (λ (x : ℕ). leafSize L * up x (L .entries)) z ∙ ap (λ (x : ℕ). leafSize L * x) (up-zero (L .entries) some) ∙ mul-zero (leafSize L))
@@ -162,14 +165,14 @@ module _ (L : Layout) (some : 0 < L .entries) where
       let e = L .entries in
       let i : weighs (weight L 0) e j (0 - e) ≡ leafSize L * up (min (0 - e) (e * j)) e = leaves-weigh j (0 - e) in
       let z : min (0 - e) (e * j) ≡ min 0 (e * suc j) = omega arith in
-      ap (λ (x : ℕ). x + weighs (weight L 0) e j (0 - e)) none-is ∙ zero-sum _ ∙ i ∙ ap (λ (x : ℕ). leafSize L * up x e) z
+      zero-sum _ ∙ i ∙ ap (λ (x : ℕ). leafSize L * up x e) z
     where
       zero-sum : (n : ℕ) → 0 + n ≡ n
       zero-sum n = omega arith
   leaves-weigh (suc j) (suc m) =
       let e = L .entries in
       let i : weighs (weight L 0) e j (suc m - e) ≡ leafSize L * up (min (suc m - e) (e * j)) e = leaves-weigh j (suc m - e) in
-      ap₂ (λ (x y : ℕ). x + y) (leaf-is m) i ∙ go (decLt e (suc m))
+      ap (λ (x : ℕ). leafSize L + x) i ∙ go (decLt e (suc m))
     where
       more : (a x y : ℕ) → y ≡ x + 1 → a + a * x ≡ a * y
       more a x y h = let g : a * y ≡ a * (x + 1) = ap (λ (z : ℕ). a * z) h in omega arith
@@ -190,6 +193,7 @@ module _ (L : Layout) (some : 0 < L .entries) where
           (ap (λ (n : ℕ). up n e) s ∙ up-one (suc m) e (omega arith) (omega arith)
           ∙ sym (ap (λ (n : ℕ). up n e + 1) z ∙ ap (λ (n : ℕ). n + 1) (up-zero e some)))
 
+  -- k + 1 levels above the last one.
   abbrev formula : ℕ → ℕ → ℕ
   formula k m = sizeBy (leafSize L) (innerSize L) (L .entries) (suc (upper L k)) (innersOver L k) (min m (L .entries * suc (L .entries) * suc (upper L k)))
 
@@ -219,7 +223,9 @@ module _ (L : Layout) (some : 0 < L .entries) where
       by : (a b x : ℕ) → a * x + b ≡ a * (x + (1 - 1)) + b * (1 + 0)
       by a b x = omega arith
 
-  pub weight-size : (k m : ℕ) → weight L (suc k) m ≡ formula k m
+  pub weight-size : (k m : ℕ) → let e = L .entries in
+      let p = suc (upper L k) in
+      weight L (suc k) m ≡ sizeBy (leafSize L) (innerSize L) e p (innersOver L k) (min m (e * suc e * p))
   unfolding weight
   weight-size zero zero = sym formula-none
   weight-size zero (suc m) = ap (λ (x : ℕ). x + innerSize L) (leaves-weigh (suc (L .entries)) (suc m)) ∙ formula-low m

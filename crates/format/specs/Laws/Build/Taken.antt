@@ -78,7 +78,7 @@ module _ (L : Layout) (ks vs : List ℕ) (h : ℕ) where
   pub layout-takes : (out n : ℕ) → build L ks vs h out ≡ gives n → LayoutTakes L ks vs h
   layout-takes out n e = both out n e .0
 
-  -- What 24 and 10 to 14 let through is refused by 16 alone.
+  -- Behind the other tests only that of the offsets is left.
   pub only-16 : (out n : ℕ) → 3 ≤ L .entries → L .entries ≤ 15 → Taken L ks vs h out n
       → build L ks vs h out ≡ provided (archiveEmplaces L (treeOf L (pairs ks vs)) (start L (treeOf L (pairs ks vs)) h)) 16 (gives n)
   unfolding build

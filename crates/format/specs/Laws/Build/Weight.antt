@@ -1,15 +1,15 @@
 -- The bytes of a filled subtree are what `weight` says, over every layout, and no fewer than those of any subtree with a level less. Assumes nothing.
 use Prim.Native.Nat.{ℕ, zero, suc, _+_, _-_, _*_, _≤_, _<_, min}
-use mathlib.Core.Path.{_≡_, refl, sym, ap, _∙_}
+use mathlib.Core.Path.{_≡_, refl, sym, ap, ap₂, _∙_}
 use mathlib.Core.List.{List, [], _∷_}
 use native.Mathlib.Omega.{arith}
 use lib.ListN.{length}
 use Rattle.format.specs.Layout.{Layout, leafSize, innerSize}
 use Rattle.format.specs.Tree.{lengthBranches, lengthBranch, KeyValue}
-use Rattle.format.specs.Build.{Filled, FilledBranches, fillNext, fillBranches, fill, logFrom, height, lastLevel, treeOf}
+use Rattle.format.specs.Build.{Filled, fillNext, fillBranches, fill, logFrom, height, lastLevel, treeOf}
 use Rattle.format.specs.Weight.{weighs, upper, room, weight}
 use Rattle.format.specs.Laws.Build.Near.{leaf-inner}
-use Rattle.format.specs.Laws.Build.Filling.{Took, fill-took}
+use Rattle.format.specs.Laws.Build.Filling.{Took, branches-by, fill-took}
 use Rattle.format.specs.Laws.Build.Built.{tree-of}
 
 pub weighs-le : (g : ℕ → ℕ) (c b : ℕ) → ((m : ℕ) → g m ≤ b) → (k m : ℕ) → weighs g c k m ≤ k * b
@@ -49,27 +49,19 @@ module _ (L : Layout) where
   module _ (give : ℕ → List KeyValue → Filled) (g : ℕ → ℕ) (q c : ℕ)
       (took : (m : ℕ) (es : List KeyValue) → q + min m c ≤ length es → Took L q c m es (give m es))
       (weighed : (m : ℕ) (es : List KeyValue) → q + min m c ≤ length es → lengthBranch L (give m es .branch) ≡ g m) where
-    next-weighs : (n m : ℕ) (es : List KeyValue) (r : Filled) → Took L q c m es r → lengthBranch L (r .branch) ≡ g m → (l : List KeyValue) → l ≡ r .rest
-        → suc (suc n) * q + suc n + min m (suc (suc n) * c) ≤ length es
-        → (go : ℕ → List KeyValue → FilledBranches)
-        → ((es : List KeyValue) → suc n * q + n + min (r .last) (suc n * c) ≤ length es
-        → lengthBranches L (go (r .last) es .branches) ≡ weighs g c (suc n) (r .last))
-        → lengthBranches L (fillNext go r l .branches) ≡ weighs g c (suc (suc n)) m
-    next-weighs n m es r D w [] e l go rec = absurd (omega (arith, D .left, ap length e))
-    next-weighs n m es r D w (x ∷ xs) e l go rec =
-        let i = rec xs (omega (arith, D .left, D .last, ap length e)) in
-        let el : r .last ≡ m - c = omega (arith, D .last) in
-        sum (lengthBranch L (r .branch)) (g m) _ _ _ w i (ap (weighs g c (suc n)) el)
-      where
-        sum : (a b x y z : ℕ) → a ≡ b → x ≡ y → y ≡ z → a + x ≡ b + z
-        sum a b x y z h e d = omega arith
-
     pub branches-weigh : (n m : ℕ) (es : List KeyValue) → suc n * q + n + min m (suc n * c) ≤ length es
         → lengthBranches L (fillBranches give n m es .branches) ≡ weighs g c (suc n) m
-    branches-weigh zero m es l = omega (arith, weighed m es (omega arith))
-    branches-weigh (suc n) m es l =
-        next-weighs n m es (give m es) (took m es (omega arith)) (weighed m es (omega arith)) (give m es .rest) refl l (fillBranches give n)
-        (branches-weigh n (give m es .last))
+    branches-weigh = branches-by L give q c took (λ n m es r. lengthBranches L (r .branches) ≡ weighs g c (suc n) m) one more
+      where
+        one : (m : ℕ) (es : List KeyValue) → q + min m c ≤ length es → lengthBranches L (fillBranches give 0 m es .branches) ≡ weighs g c 1 m
+        one m es l = omega (arith, weighed m es l)
+
+        more : (n m : ℕ) (es : List KeyValue) (x : KeyValue) (xs : List KeyValue) → q + min m c ≤ length es → x ∷ xs ≡ give m es .rest
+            → lengthBranches L (fillBranches give n (give m es .last) xs .branches) ≡ weighs g c (suc n) (give m es .last)
+            → lengthBranches L (fillNext (fillBranches give n) (give m es) (x ∷ xs) .branches) ≡ weighs g c (suc (suc n)) m
+        more n m es x xs l e r =
+            let el : give m es .last ≡ m - c = omega (arith, took m es l .last) in
+            ap₂ (λ (i j : ℕ). i + j) (weighed m es l) (r ∙ ap (weighs g c (suc n)) el)
 
   pub fill-weighs : (h m : ℕ) (es : List KeyValue) → upper L h + min m (room L h) ≤ length es → lengthBranch L (fill L h m es .branch) ≡ weight L h m
   unfolding fill weight
