@@ -27,8 +27,8 @@ returns c =
     let (answer, lists) = call .range .ensures in
     let e = sym answer ∙ ap rangeOf (c .before .before .why .given .1) in
     rw (sym (b .before .bound .ensures), sym (b .bound2 .ensures))
-    (answers-refused rangeWritten (lit≤ tt) (range-by layout32 standard _ _ _ _ _) (c .before .before .why .given .0 .0) e (c .refused .ok) (c .refused .ensures)
-    (lists .0, (lists .1, store-refused rangeMatching _ e)))
+    (answers-refused rangeWritten (lit≤ tt) (range-by layout32 standard _ _ _ _ _) (c .before .before .why .given .0 .0) e
+    (c .refused .ok) (c .refused .ensures) (lists .0, (lists .1, store-refused rangeMatching _ e)))
 
 returns-2 : tie.Need-returns-2
 returns-2 c =

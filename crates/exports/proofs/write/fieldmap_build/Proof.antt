@@ -33,7 +33,8 @@ returns-2 c =
     let call : tie.After-build = search in
     let (answer, output) = call .build .ensures in
     let e = sym answer ∙ ap builtOf (c .before .before .why .given .1) in
-    answers-refused (λ (n : ℕ). n) (lit≤ tt) (build-by layout32 (lit≤ tt) (lit≤ tt) (lit≤ tt) _ _ _ _) (c .before .before .why .given .0 .0) e (c .refused .ok) (c .refused .ensures) output
+    answers-refused (λ (n : ℕ). n) (lit≤ tt) (build-by layout32 (lit≤ tt) (lit≤ tt) (lit≤ tt) _ _ _ _)
+    (c .before .before .why .given .0 .0) e (c .refused .ok) (c .refused .ensures) output
 
 pub fieldmap-build-spec : {M : Type 1} → statement M
 fieldmap-build-spec =

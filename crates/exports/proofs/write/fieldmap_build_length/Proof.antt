@@ -32,7 +32,8 @@ returns-2 c =
     let call : tie.After-build-length = search in
     let e = sym (call .build-length .ensures) ∙ ap builtOf (c .before .before .why .given .1) in
     let r = returned (c .refused .ok) (c .refused .ensures) in
-    (code-refused (λ (n : ℕ). n) e r, told-refused (lit≤ tt) (length-up-to layout32 (lit≤ tt) (lit≤ tt) (lit≤ tt) _ _) (c .before .before .why .given .0 .0) e r)
+    let up = length-up-to layout32 (lit≤ tt) (lit≤ tt) (lit≤ tt) _ _ in
+    (code-refused (λ (n : ℕ). n) e r, told-refused (lit≤ tt) up (c .before .before .why .given .0 .0) e r)
 
 pub fieldmap-build-length-spec : {M : Type 1} → statement M
 fieldmap-build-length-spec =
