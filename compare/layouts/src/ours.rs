@@ -42,6 +42,17 @@ extern "C" {
         values: *mut u64,
         values_length: usize,
     ) -> u64;
+    fn layouts_build(
+        output: *mut u8,
+        length: usize,
+        width: u8,
+        entries: usize,
+        header: usize,
+        keys: *const u64,
+        keys_length: usize,
+        values: *const u64,
+        values_length: usize,
+    ) -> u64;
 }
 
 /// The number that a call gives, or the refusal: `u64::MAX` less its number. No call gives a number that large.
@@ -122,6 +133,30 @@ impl Named {
                 keys.as_mut_ptr(),
                 keys.len(),
                 values.as_mut_ptr(),
+                values.len(),
+            )
+        })
+    }
+
+    /// The end of the archive that is built behind the header, the output's first bytes, or the refusal.
+    pub fn build(
+        self,
+        output: &mut [u8],
+        header: usize,
+        keys: &[u64],
+        values: &[u64],
+    ) -> Result<u64, u8> {
+        // SAFETY: as above.
+        answer(unsafe {
+            layouts_build(
+                output.as_mut_ptr(),
+                output.len(),
+                self.width,
+                self.entries,
+                header,
+                keys.as_ptr(),
+                keys.len(),
+                values.as_ptr(),
                 values.len(),
             )
         })

@@ -133,7 +133,7 @@ fn measure_build(archive: &[u8], keys: &[u64], values: &[u64]) {
     let build = proved!(building(archive, keys, values));
     let times = best(0, build, |_| {
         output.clear();
-        rkyv_map::build_into(&mut output, &mut arena, black_box(keys), values).unwrap();
+        rkyv_map::build_into::<5>(&mut output, &mut arena, black_box(keys), values).unwrap();
         output.len()
     });
     assert_eq!(output.as_slice(), archive, "the same bytes");

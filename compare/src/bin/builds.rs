@@ -138,7 +138,7 @@ impl Run {
     fn archive(&mut self, header: usize, keys: &[u64], values: &[u64]) {
         self.rkyv.clear();
         self.rkyv.extend_from_slice(&self.before[..header]);
-        rkyv_map::build_into(&mut self.rkyv, &mut self.arena, keys, values)
+        rkyv_map::build_into::<5>(&mut self.rkyv, &mut self.arena, keys, values)
             .expect("rkyv builds every list");
         let end = self.rkyv.len();
         let past = self.random.below(PAST + 1);

@@ -1,3 +1,6 @@
-pub mod Weights
-pub mod Whole
-pub mod Refusals
+mod Levels
+mod Reach
+mod Ascends
+mod Whole
+mod Entries
+mod Refusals

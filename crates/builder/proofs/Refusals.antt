@@ -1,143 +1,140 @@
 -- Each refusal of a build and its acceptance, by what the tests told. Assumes nothing.
 use mathlib.Core.Path.{_≡_, refl, sym, ap, _∙_}
-use mathlib.Core.Bool.{true, false}
-use mathlib.Core.List.{List, [], _∷_}
-use Prim.Native.Nat.{ℕ, zero, suc, _+_, _≤_, _<_}
+use mathlib.Core.Bool.{Bool, true, false, not}
+use mathlib.Core.List.{List}
+use Prim.Native.Nat.{ℕ, _+_, _-_, _^_, _≤_, _<_}
 use native.Mathlib.Omega.{arith}
-use native.Mathlib.Numerals.{add-one}
-use borrow.Author.Tests.{lt-ltb, le-ltb, le-leb, lt-leb, eq-eqb, ne-eqb}
-use lib.ListN.{length, getD, drop, replicate, length-replicate, drop-of-length-le}
-use lib.Seq.{drop-cons}
-use lib.Dec.{leb, eqb, lit≤}
-use Rattle.format.specs.Layout.{layout32}
+use borrow.Author.Tests.{le-leb, lt-leb, eq-eqb, ne-eqb, not-true, not-false}
+use lib.ListN.{length, replicate, length-replicate}
+use lib.Dec.{leb, eqb}
+use Rattle.format.specs.Layout.{Layout, signBits}
 use Rattle.format.specs.Bytes.{put}
 use Rattle.format.specs.Refusal.{Answer, gives, refuses, provided}
+use Rattle.format.specs.Offsets.{archiveEmplaces}
 use Rattle.format.specs.Tree.{KeyValue}
-use Rattle.format.specs.Build.{treeOf, behind, pairs, risesFrom, rises, build, buildLength, outBy, outAfter}
+use Rattle.format.specs.Build.{height, lastLevel, treeOf, start, behind, pairs, rises, entriesInRange, build, buildLength, outBy, outAfter}
 use Rattle.format.specs.Laws.Build.Given.{length-pairs}
-use Rattle.format.specs.Laws.Build.Certifies.{wide-build}
-use Rattle.format.specs.Laws.Build.Lengths.{wide-length}
-use Rattle.builder.specs.Size.{endOf}
+use Rattle.format.specs.Laws.Build.Taken.{passes, fails, range-in}
+use Rattle.format.specs.Laws.Build.Certifies.{emplaces-by}
+use Rattle.builder.specs.declared.size.Plan.{Plan}
+use Rattle.builder.specs.Size.{Named, endOf, fitsWidth, Planned}
 use Rattle.builder.proofs.Whole.{end-is}
 
--- ---- keys that ascend
+-- What 24 and 11 let through.
+pub named : {L : Layout} {n : ℕ} → entriesInRange L ≡ true → n ≤ 40000 → Named L n
+named {L} r few = let t = range-in L r in record { least = t .0; most = t .1; few = few }
 
-pub rises-none : (ks : List ℕ) → length ks ≡ 0 → true ≡ rises ks
-rises-none [] h = refl
-rises-none (k ∷ ks) h = absurd (omega arith)
+-- What the plan of n entries says of any n entries.
+module _ (L : Layout) (es : List KeyValue) (h n : ℕ) (e : length es ≡ n) (N : Named L n) (low : h ≤ 4096) {p : Plan} (P : Planned L n h p) where
+  plan-end : h + length (behind L h (treeOf L es) n) ≡ p .end
+  plan-end = end-is L es h n (omega (arith, N .least)) e ∙ sym (P .end)
 
--- The two keys from the i-th on.
-two : (ks : List ℕ) (i : ℕ) → i + 1 < length ks → rises (drop i ks) ≡ risesFrom (getD ks i 0) (getD ks (i + 1) 0 ∷ drop (suc (i + 1)) ks)
-two ks i h =
-    let a : drop i ks ≡ getD ks i 0 ∷ drop (suc i) ks = drop-cons ks i 0 (omega arith) in
-    let b : drop (suc i) ks ≡ drop (i + 1) ks = ap (λ (j : ℕ). drop j ks) (sym (add-one i)) in
-    ap rises a ∙ ap (risesFrom (getD ks i 0)) (b ∙ drop-cons ks (i + 1) 0 h)
+  plan-fits : archiveEmplaces L (treeOf L es) (start L (treeOf L es) h) ≡ p .fits
+  plan-fits =
+      emplaces-by L (N .least) (N .most) es h low (omega (arith, e, N .few)) ∙ ap (fitsWidth L) e ∙ sym (P .fits)
 
-next : (ks : List ℕ) (i : ℕ) → i + 1 < length ks → rises (drop (i + 1) ks) ≡ risesFrom (getD ks (i + 1) 0) (drop (suc (i + 1)) ks)
-next ks i h = ap rises (drop-cons ks (i + 1) 0 h)
+-- ---- a build
 
-up : (a b : ℕ) (l : List ℕ) → a < b → risesFrom a (b ∷ l) ≡ risesFrom b l
-up a b l h = rw (lt-ltb a b h, risesFrom)
-
-down : (a b : ℕ) (l : List ℕ) → b ≤ a → risesFrom a (b ∷ l) ≡ false
-down a b l h = rw (le-ltb a b h, risesFrom)
-
-pub rises-falls : (ks : List ℕ) (i : ℕ) → i + 1 < length ks → getD ks (i + 1) 0 ≤ getD ks i 0 → rises (drop i ks) ≡ rises ks → false ≡ rises ks
-rises-falls ks i h l e = sym (two ks i h ∙ down (getD ks i 0) (getD ks (i + 1) 0) (drop (suc (i + 1)) ks) l) ∙ e
-
-pub rises-more : (ks : List ℕ) (i : ℕ) → i + 1 < length ks → getD ks i 0 < getD ks (i + 1) 0 → rises (drop i ks) ≡ rises ks → rises (drop (i + 1) ks) ≡ rises ks
-rises-more ks i h l e = next ks i h ∙ sym (two ks i h ∙ up (getD ks i 0) (getD ks (i + 1) 0) (drop (suc (i + 1)) ks) l) ∙ e
-
-pub rises-last : (ks : List ℕ) (i : ℕ) → i < length ks → length ks ≤ i + 1 → rises (drop i ks) ≡ rises ks → true ≡ rises ks
-rises-last ks i h l e =
-    let a : drop i ks ≡ getD ks i 0 ∷ drop (suc i) ks = drop-cons ks i 0 h in
-    let z : length ks ≤ suc i = omega arith in
-    sym (ap rises (a ∙ ap (λ (x : List ℕ). getD ks i 0 ∷ x) (drop-of-length-le ks z))) ∙ e
-
--- ---- the answer, and the output
-
-module _ (ks vs : List ℕ) (h : ℕ) (out : List ℕ) where
+module _ (L : Layout) (ks vs : List ℕ) (h : ℕ) (out : List ℕ) where
   -- The answer r, with an output o.
-  pub record Answered (r : Answer ℕ) (o : List ℕ) : Type 0 where
-    pub answer : r ≡ build layout32 ks vs h (length out)
-    pub after : o ≡ outAfter layout32 ks vs h out
+  abbrev pub Answered : Answer ℕ → List ℕ → Type 0
+  Answered r o = (r ≡ build L ks vs h (length out)) × (o ≡ outAfter L ks vs h out)
 
-  -- 10 to 14, in order.
-  abbrev tests : Answer ℕ
-  tests =
-      let n = h + length (behind layout32 h (treeOf layout32 (pairs ks vs)) (length ks)) in
-      provided (eqb (length ks) (length vs)) 10
-      (provided (leb (length ks) 40000) 11
-      (provided (rises ks) 12
-      (provided (leb h 4096) 13
-      (provided (leb n (length out)) 14 (gives n)))))
-
-  tested : tests ≡ build layout32 ks vs h (length out)
-  tested = sym (wide-build layout32 ks vs h (length out) (lit≤ tt) (lit≤ tt) (lit≤ tt))
-
-  refused : (n : ℕ) → refuses n ≡ tests → Answered (refuses n) out
+  refused : (n : ℕ) → build L ks vs h (length out) ≡ refuses n → Answered (refuses n) out
   unfolding outAfter
-  refused n e = let e′ = e ∙ tested in record { answer = e′; after = ap (λ (a : Answer ℕ). outBy layout32 a h (pairs ks vs) out) e′ }
+  refused n e = (sym e, ap (λ (a : Answer ℕ). outBy L a h (pairs ks vs) out) (sym e))
 
-  pub refuse-10 : (length ks ≡ length vs → ⊥) → Answered (refuses 10) out
-  refuse-10 a = refused 10 (simp (ne-eqb (length ks) (length vs) a))
+  pub refuse-24 : entriesInRange L ≡ false → Answered (refuses 24) out
+  unfolding build
+  refuse-24 r = refused 24 (fails r _ _)
 
-  pub refuse-11 : length ks ≡ length vs → 40000 < length ks → Answered (refuses 11) out
-  refuse-11 a b = refused 11 (simp (eq-eqb (length ks) (length vs) a, lt-leb (length ks) 40000 b))
+  module _ (r : entriesInRange L ≡ true) where
+    pub refuse-10 : (length ks ≡ length vs → ⊥) → Answered (refuses 10) out
+    unfolding build
+    refuse-10 a = refused 10 (passes r _ _ ∙ fails (ne-eqb (length ks) (length vs) a) _ _)
 
-  module _ (a : length ks ≡ length vs) (b : length ks ≤ 40000) where
-    pub refuse-12 : rises ks ≡ false → Answered (refuses 12) out
-    refuse-12 c = refused 12 (simp (eq-eqb (length ks) (length vs) a, le-leb (length ks) 40000 b, c))
+    module _ (a : length ks ≡ length vs) where
+      pub refuse-11 : 40000 < length ks → Answered (refuses 11) out
+      unfolding build
+      refuse-11 b = refused 11 (passes r _ _ ∙ passes (eq-eqb (length ks) (length vs) a) _ _ ∙ fails (lt-leb (length ks) 40000 b) _ _)
 
-    pub refuse-13 : rises ks ≡ true → 4096 < h → Answered (refuses 13) out
-    refuse-13 c d = refused 13 (simp (eq-eqb (length ks) (length vs) a, le-leb (length ks) 40000 b, c, lt-leb h 4096 d))
+      module _ (b : length ks ≤ 40000) where
+        -- From 12 on.
+        abbrev Later : Answer ℕ → Type 0
+        Later x = build L ks vs h (length out) ≡ provided (rises ks) 12 (provided (leb h 4096) 13 x)
 
-    pub refuse-14 : rises ks ≡ true → h ≤ 4096 → length out < endOf (length ks) h → Answered (refuses 14) out
-    refuse-14 c d e =
-        let n = h + length (behind layout32 h (treeOf layout32 (pairs ks vs)) (length ks)) in
-        let q : length out < n = omega (arith, end-is ks vs a b h) in
-        refused 14 (simp (eq-eqb (length ks) (length vs) a, le-leb (length ks) 40000 b, c, le-leb h 4096 d, lt-leb n (length out) q))
+        later : let t = treeOf L (pairs ks vs) in
+            let n = h + length (behind L h t (length ks)) in
+            Later (provided (leb n (length out)) 14 (provided (archiveEmplaces L t (start L t h)) 16 (gives n)))
+        unfolding build
+        later = passes r _ _ ∙ passes (eq-eqb (length ks) (length vs) a) _ _ ∙ passes (le-leb (length ks) 40000 b) _ _
 
-    pub accepted : rises ks ≡ true → h ≤ 4096 → endOf (length ks) h ≤ length out → (n : ℕ) → n ≡ endOf (length ks) h
-        → (o : List ℕ) → o ≡ put out h (behind layout32 h (treeOf layout32 (pairs ks vs)) (length ks)) → Answered (gives n) o
-    unfolding outAfter
-    accepted c d e n en o eo =
-        let z = h + length (behind layout32 h (treeOf layout32 (pairs ks vs)) (length ks)) in
-        let q : z ≤ length out = omega (arith, end-is ks vs a b h) in
-        let t : gives z ≡ tests = simp (eq-eqb (length ks) (length vs) a, le-leb (length ks) 40000 b, c, le-leb h 4096 d, le-leb z (length out) q) in
-        let y = t ∙ tested in
-        record {
-          answer = ap gives (en ∙ sym (end-is ks vs a b h)) ∙ y;
-          after = eo ∙ ap (λ (i : ℕ). put out h (behind layout32 h (treeOf layout32 (pairs ks vs)) i)) (sym (length-pairs ks vs a)) ∙ ap (λ (x : Answer ℕ). outBy layout32 x h (pairs ks vs) out) y;
-        }
+        pub refuse-12 : rises ks ≡ false → Answered (refuses 12) out
+        refuse-12 c = refused 12 (later ∙ fails c _ _)
+
+        module _ (c : rises ks ≡ true) where
+          pub refuse-13 : 4096 < h → Answered (refuses 13) out
+          refuse-13 d = refused 13 (later ∙ passes c _ _ ∙ fails (lt-leb h 4096 d) _ _)
+
+          module _ (d : h ≤ 4096) {p : Plan} (P : Planned L (length ks) h p) where
+            planned : build L ks vs h (length out) ≡ provided (leb (p .end) (length out)) 14 (provided (p .fits) 16 (gives (p .end)))
+            planned =
+                let N = named r b in
+                let el = length-pairs ks vs a in
+                let n = h + length (behind L h (treeOf L (pairs ks vs)) (length ks)) in
+                later ∙ passes c _ _ ∙ passes (le-leb h 4096 d) _ _
+                ∙ ap (λ (x : Bool). provided (leb n (length out)) 14 (provided x 16 (gives n))) (plan-fits L (pairs ks vs) h (length ks) el N d P)
+                ∙ ap (λ (x : ℕ). provided (leb x (length out)) 14 (provided (p .fits) 16 (gives x))) (plan-end L (pairs ks vs) h (length ks) el N d P)
+
+            pub refuse-14 : length out < p .end → Answered (refuses 14) out
+            refuse-14 f = refused 14 (planned ∙ fails (lt-leb (p .end) (length out) f) _ _)
+
+            module _ (f : p .end ≤ length out) where
+              pub refuse-16 : p .fits ≡ false → Answered (refuses 16) out
+              refuse-16 g = refused 16 (planned ∙ passes (le-leb (p .end) (length out) f) _ _ ∙ fails g _ _)
+
+              pub accepted : p .fits ≡ true → (o : List ℕ) → o ≡ put out h (behind L h (treeOf L (pairs ks vs)) (length ks))
+                  → Answered (gives (p .end)) o
+              unfolding outAfter
+              accepted g o eo =
+                  let e = planned ∙ passes (le-leb (p .end) (length out) f) _ _ ∙ passes g _ _ in (
+                    sym e,
+                    eo
+                        ∙ ap (λ (n : ℕ). put out h (behind L h (treeOf L (pairs ks vs)) n)) (sym (length-pairs ks vs a))
+                        ∙ ap (λ (x : Answer ℕ). outBy L x h (pairs ks vs) out) (sym e),
+                  )
 
 -- ---- the length for so many entries
 
-module _ (n h : ℕ) where
-  length-tests : buildLength layout32 n h
-      ≡ provided (leb n 40000) 11
-      (provided (leb h 4096) 13 (gives (h + length (behind layout32 h (treeOf layout32 (replicate n (record { key = 0; value = 0 }))) n))))
-  length-tests = wide-length layout32 n h (lit≤ tt) (lit≤ tt) (lit≤ tt)
+module _ (L : Layout) (n h : ℕ) where
+  pub length-24 : entriesInRange L ≡ false → refuses 24 ≡ buildLength L n h
+  unfolding buildLength
+  length-24 r = sym (fails r _ _)
 
-  pub length-11 : 40000 < n → refuses 11 ≡ buildLength layout32 n h
-  length-11 a = rw (length-tests, lt-leb n 40000 a)
+  module _ (r : entriesInRange L ≡ true) where
+    pub length-11 : 40000 < n → refuses 11 ≡ buildLength L n h
+    unfolding buildLength
+    length-11 a = sym (passes r _ _ ∙ fails (lt-leb n 40000 a) _ _)
 
-  module _ (a : n ≤ 40000) where
-    pub length-13 : 4096 < h → refuses 13 ≡ buildLength layout32 n h
-    length-13 b = rw (length-tests, le-leb n 40000 a, lt-leb h 4096 b)
+    module _ (a : n ≤ 40000) where
+      pub length-13 : 4096 < h → refuses 13 ≡ buildLength L n h
+      unfolding buildLength
+      length-13 b = sym (passes r _ _ ∙ passes (le-leb n 40000 a) _ _ ∙ fails (lt-leb h 4096 b) _ _)
 
-    pub length-accepted : h ≤ 4096 → (e : ℕ) → e ≡ endOf n h → gives e ≡ buildLength layout32 n h
-    length-accepted b e ee = rw (length-tests, le-leb n 40000 a, le-leb h 4096 b) (ap gives (ee ∙ sym ends))
-      where
-        noughts : (n : ℕ) → pairs (replicate n 0) (replicate n 0) ≡ replicate n (record { key = 0; value = 0 })
-        noughts zero = refl
-        noughts (suc n) = ap (λ (l : List KeyValue). record { key = 0; value = 0 } ∷ l) (noughts n)
+      module _ (b : h ≤ 4096) {p : Plan} (P : Planned L n h p) where
+        length-planned : buildLength L n h ≡ provided (p .fits) 16 (gives (p .end))
+        unfolding buildLength
+        length-planned =
+            let N = named r a in
+            let es : List KeyValue = replicate n (record { key = 0; value = 0 }) in
+            let el : length es ≡ n = length-replicate n (record { key = 0; value = 0 }) in
+            let m = h + length (behind L h (treeOf L es) n) in
+            passes r _ _ ∙ passes (le-leb n 40000 a) _ _ ∙ passes (le-leb h 4096 b) _ _
+            ∙ ap (λ (x : Bool). provided x 16 (gives m)) (plan-fits L es h n el N b P)
+            ∙ ap (λ (x : ℕ). provided (p .fits) 16 (gives x)) (plan-end L es h n el N b P)
 
-        ends : h + length (behind layout32 h (treeOf layout32 (replicate n (record { key = 0; value = 0 }))) n) ≡ endOf n h
-        ends =
-            let ks : List ℕ = replicate n 0 in
-            let el : length ks ≡ n = length-replicate n 0 in
-            ap (λ (l : List KeyValue). h + length (behind layout32 h (treeOf layout32 l) n)) (sym (noughts n))
-            ∙ ap (λ (x : ℕ). h + length (behind layout32 h (treeOf layout32 (pairs ks ks)) x)) (sym el)
-            ∙ end-is ks ks refl (omega arith) h
-            ∙ ap (λ (x : ℕ). endOf x h) el
+        pub length-16 : p .fits ≡ false → refuses 16 ≡ buildLength L n h
+        length-16 f = sym (length-planned ∙ fails f _ _)
+
+        pub length-given : p .fits ≡ true → gives (p .end) ≡ buildLength L n h
+        length-given f = sym (length-planned ∙ passes f _ _)

@@ -1,111 +1,40 @@
 -- The archive is put together from its parts. Assumes nothing.
 use mathlib.Core.Path.{_≡_, refl, sym, ap, ap₂, _∙_}
-use mathlib.Core.Bool.{true}
+use mathlib.Core.Bool.{Bool, true}
 use mathlib.Core.List.{List, [], _∷_, _++_}
 use Prim.Native.Nat.{ℕ, zero, suc, _+_, _-_, _^_, _≤_, _<_}
 use native.Mathlib.Omega.{arith}
-use native.Mathlib.Nat.{not-suc-le-zero}
+use borrow.Author.Tests.{le-leb}
 use lib.ListN.{length, replicate, length-replicate}
 use Rattle.format.specs.declared.Child.{Child}
-use Rattle.format.specs.declared.Child.the-variants.{Absent}
-use Rattle.format.specs.Layout.{layout32}
-use Rattle.format.specs.Bytes.{put}
+use Rattle.format.specs.Layout.{Width, two, four, eight, bytes, signBits, Layout, pointer, nodeAlign, recordSize}
+use Rattle.format.specs.Bytes.{leBytes, put}
 use Rattle.format.specs.Refusal.{gives, refuses}
 use Rattle.format.specs.Align.{isAlignment, zerosTo, Step, alignStep}
-use Rattle.format.specs.Tree.{Branch, noneB, someB, lengthBranch, childOf, writeBranch, KeyValue}
-use Rattle.format.specs.Build.{height, lastLevel, treeOf, firstAlign, recordBytes, behind, pairs}
+use Rattle.format.specs.Tree.{offsetBytes, Branch, noneB, someB, lengthBranch, childOf, writeBranch, KeyValue}
+use Rattle.format.specs.Weight.{weight, reach}
+use Rattle.format.specs.Build.{logFrom, height, lastLevel, treeOf, firstAlign, recordBytes, behind}
 use Rattle.format.specs.TreeShape.{There}
 use Rattle.format.specs.Laws.Numbers.Align.{alignment-pos, step-given, zeros-lt}
-use Rattle.format.specs.Laws.Build.NodeBytes.{length-writeBranch}
+use Rattle.format.specs.Laws.Build.NodeBytes.{length-offset, length-writeBranch}
+use Rattle.format.specs.Laws.Build.Weight.{tree-weighs}
 use Rattle.format.specs.Laws.Build.Built.{behind-length, tree-there}
-use Rattle.format.specs.Laws.Build.Given.{length-pairs}
-use Rattle.builder.specs.Size.{weight, endOf}
-use Rattle.nodes.proofs.Laws.{join}
-use Rattle.builder.proofs.Weights.{tree-weighs}
+use Rattle.nodes.proofs.Runs.{put-then}
+use Rattle.builder.specs.declared.size.Levels.{Levels}
+use Rattle.builder.specs.Size.{Named, firstAlignOf, nodesOf, endOf, reachOf, fitsWidth, Leveled, Planned}
+use Rattle.builder.proofs.Levels.{fits}
 
-module _ (ks vs : List ℕ) (same : length ks ≡ length vs) (p : 0 < length ks) (few : length ks ≤ 40000) where
-  abbrev tree : Branch
-  tree = treeOf layout32 (pairs ks vs)
+-- ---- the start
 
-  some-align : firstAlign layout32 tree ≡ 8
-  some-align = by (pairs ks vs) (length-pairs ks vs same)
-    where
-      there : (b : Branch) → There b → firstAlign layout32 b ≡ 8
-      there noneB t = absurd t
-      there (someB x) t = refl
-
-      by : (all : List KeyValue) → length all ≡ length ks → firstAlign layout32 (treeOf layout32 all) ≡ 8
-      by [] e = absurd (omega arith)
-      by (x ∷ xs) e = there (treeOf layout32 (x ∷ xs)) (tree-there layout32 x xs (omega arith))
-
-  -- The tree's length is that of the formula.
-  tree-weight : lengthBranch layout32 tree ≡ weight (height layout32 (length ks) - 1) (lastLevel layout32 (length ks))
-  tree-weight = by (pairs ks vs) (length-pairs ks vs same)
-    where
-      by : (all : List KeyValue) → length all ≡ length ks → lengthBranch layout32 (treeOf layout32 all) ≡ weight (height layout32 (length ks) - 1) (lastLevel layout32 (length ks))
-      by [] e = absurd (omega arith)
-      by (x ∷ xs) e = tree-weighs x xs ∙ ap (λ (n : ℕ). weight (height layout32 n - 1) (lastLevel layout32 n)) e
-
--- ---- the archive
-
--- Zeros, the nodes and the record, one after the other.
-behind-by : (b : Branch) (a : ℕ) → firstAlign layout32 b ≡ a → (h n : ℕ) (out o₁ o₂ o₃ : List ℕ) → length (writeBranch layout32 b (h + zerosTo a h)) ≡ lengthBranch layout32 b
-    → let p = h + zerosTo a h in
-    o₁ ≡ put out h (replicate (p - h) 0) → o₂ ≡ put o₁ p (writeBranch layout32 b p) → o₃ ≡ put o₂ (p + lengthBranch layout32 b) (recordBytes layout32 (p + lengthBranch layout32 b) (childOf layout32 b p) n)
-    → o₃ ≡ put out h (behind layout32 h b n)
-unfolding behind
-behind-by b a ea h n out o₁ o₂ o₃ size e₁ e₂ e₃ =
-    let z = zerosTo a h in
-    let p = h + z in
-    let w = writeBranch layout32 b p in
-    let r = recordBytes layout32 (p + lengthBranch layout32 b) (childOf layout32 b p) n in
-    let ez : p - h ≡ z = omega arith in
-    let zs : List ℕ = replicate z 0 in
-    let lz : length zs ≡ z = length-replicate z 0 in
-    let k : o₃ ≡ put o₁ p (w ++ r) = join o₁ o₂ o₃ p w r e₂ (e₃ ∙ ap (λ (i : ℕ). put o₂ (p + i) r) (sym size)) in
-    let g : o₃ ≡ put out h (replicate z 0 ++ (w ++ r)) =
-    join out o₁ o₃ h zs (w ++ r) (e₁ ∙ ap (λ (i : ℕ). put out h (replicate i 0)) ez) (k ∙ ap (λ (i : ℕ). put o₁ (h + i) (w ++ r)) (sym lz)) in
-    g ∙ ap (λ (x : ℕ). put out h (at x)) (sym ea)
-  where
-    at : ℕ → List ℕ
-    at x =
-        let q = h + zerosTo x h in
-        replicate (zerosTo x h) 0 ++ (writeBranch layout32 b q ++ recordBytes layout32 (q + lengthBranch layout32 b) (childOf layout32 b q) n)
-
-end-none : (h : ℕ) → h + length (behind layout32 h noneB 0) ≡ endOf 0 h
-unfolding endOf
-end-none h = omega (arith, behind-length layout32 h 0 noneB)
-
-end-some : (n h : ℕ) → 0 < n → endOf n h ≡ h + zerosTo 8 h + weight (height layout32 n - 1) (lastLevel layout32 n) + 8
-unfolding endOf
-end-some zero h p = absurd (not-suc-le-zero p)
-end-some (suc n) h p = refl
-
--- Where the parts of an archive of some entries end.
-pub end-tree : (ks vs : List ℕ) → length ks ≡ length vs → 0 < length ks → length ks ≤ 40000 → (h : ℕ)
-    → endOf (length ks) h ≡ h + zerosTo 8 h + lengthBranch layout32 (treeOf layout32 (pairs ks vs)) + 8
-end-tree ks vs same p few h = end-some (length ks) h p ∙ ap (λ (x : ℕ). h + zerosTo 8 h + x + 8) (sym (tree-weight ks vs same p few))
-
--- The archive's end is that of the formula.
-pub end-is : (ks vs : List ℕ) → length ks ≡ length vs → length ks ≤ 40000 → (h : ℕ) → h + length (behind layout32 h (treeOf layout32 (pairs ks vs)) (length ks)) ≡ endOf (length ks) h
-unfolding treeOf
-end-is [] vs same few h = end-none h
-end-is (k ∷ ks) vs same few h =
-    let b = treeOf layout32 (pairs (k ∷ ks) vs) in
-    let l = behind-length layout32 h (length (k ∷ ks)) b in
-    let a = ap (λ (x : ℕ). zerosTo x h) (some-align (k ∷ ks) vs same (omega arith) few) in
-    let e = end-tree (k ∷ ks) vs same (omega arith) few h in
-    omega (arith, l, a, e)
-
--- ---- by what the calls answered
-
-pub is-4 : isAlignment 4 ≡ true
+pub node-aligns : isAlignment nodeAlign ≡ true
 unfolding isAlignment
-is-4 = refl
+node-aligns = refl
 
-pub is-8 : isAlignment 8 ≡ true
+pub record-aligns : (w : Width) → (0 < bytes w) × (bytes w ≤ 8) × (isAlignment (bytes w) ≡ true)
 unfolding isAlignment
-is-8 = refl
+record-aligns two = (omega arith, omega arith, refl)
+record-aligns four = (omega arith, omega arith, refl)
+record-aligns eight = (omega arith, omega arith, refl)
 
 module _ (h a : ℕ) (low : h ≤ 4096) (few : a ≤ 8) (is : isAlignment a ≡ true) where
   abbrev start : Step
@@ -125,39 +54,98 @@ module _ (h a : ℕ) (low : h ≤ 4096) (few : a ≤ 8) (is : isAlignment a ≡ 
       let y : refuses n ≡ gives start = e ∙ stepped in
       let x : _≡_ {A = ℕ} 0 1 = cc in absurd (omega arith)
 
-pub end-zero : (n h s : ℕ) → n ≡ 0 → s ≡ h + zerosTo 4 h → s + 8 ≡ endOf n h
-unfolding endOf
-end-zero n h s e es = rw (e, es)
+-- ---- the end
 
-pub end-more : (n h s d p w : ℕ) → (n ≡ 0 → ⊥) → s ≡ h + zerosTo 8 h → d ≡ height layout32 n - 1 → p ≡ 6 ^ d → w ≡ weight d (n - (p - 1)) → s + w + 8 ≡ endOf n h
-unfolding endOf lastLevel
-end-more zero h s d p w z es ed ep ew = absurd (z refl)
-end-more (suc n) h s d p w z es ed ep ew = rw (ew, es, ep, ed)
+module _ (L : Layout) where
+  pub first-align : (es : List KeyValue) → 0 < L .entries → firstAlign L (treeOf L es) ≡ firstAlignOf L (length es)
+  unfolding treeOf
+  first-align [] some = refl
+  first-align (e ∷ es) some = there (treeOf L (e ∷ es)) (tree-there L e es some)
+    where
+      there : (b : Branch) → There b → firstAlign L b ≡ nodeAlign
+      there noneB t = absurd t
+      there (someB x) t = refl
 
-pub none-by : (h s : ℕ) (out o₁ o₂ : List ℕ) → s ≡ h + zerosTo 4 h → o₁ ≡ put out h (replicate (s - h) 0) → o₂ ≡ put o₁ s (recordBytes layout32 s Absent 0)
-    → o₂ ≡ put out h (behind layout32 h noneB 0)
-none-by h s out o₁ o₂ es e₁ e₂ =
-    let p = h + zerosTo 4 h in
-    let z : p ≡ p + 0 = omega arith in
-    behind-by noneB 4 refl h 0 out o₁ o₁ o₂ refl (e₁ ∙ ap (λ (i : ℕ). put out h (replicate (i - h) 0)) es) refl (e₂ ∙ ap (λ (i : ℕ). put o₁ i (recordBytes layout32 i Absent 0)) (es ∙ z))
+  -- The archive's end is that of the formula.
+  pub end-is : (es : List KeyValue) (h n : ℕ) → 0 < L .entries → length es ≡ n → h + length (behind L h (treeOf L es) n) ≡ endOf L n h
+  end-is es h n some e =
+      let b = behind-length L h n (treeOf L es) in
+      let a = ap (λ (x : ℕ). zerosTo x h) (first-align es some) in
+      let w = tree-weighs L es some in
+      omega (arith, b, a, w) ∙ ap (λ (x : ℕ). endOf L x h) e
 
--- No keys, no tree.
-pub none-behind : (ks vs : List ℕ) (h : ℕ) → length ks ≡ 0 → behind layout32 h noneB 0 ≡ behind layout32 h (treeOf layout32 (pairs ks vs)) (length ks)
-unfolding treeOf
-none-behind [] vs h e = refl
-none-behind (k ∷ ks) vs h e = absurd (omega arith)
+-- ---- the bytes
 
-pub some-by : (ks vs : List ℕ) → length ks ≡ length vs → 0 < length ks → length ks ≤ 40000 → (h s q : ℕ) (c : Child) (out o₁ o₂ o₃ : List ℕ)
-    → let b = treeOf layout32 (pairs ks vs) in
-    s ≡ h + zerosTo 8 h → q ≡ s + lengthBranch layout32 b → c ≡ childOf layout32 b s → o₁ ≡ put out h (replicate (s - h) 0) → o₂ ≡ put o₁ s (writeBranch layout32 b s)
-    → o₃ ≡ put o₂ q (recordBytes layout32 q c (length ks)) → o₃ ≡ put out h (behind layout32 h b (length ks))
-some-by ks vs same p few h s q c out o₁ o₂ o₃ es eq ec e₁ e₂ e₃ =
-    let b = treeOf layout32 (pairs ks vs) in
-    let x = h + zerosTo 8 h in
-    let n = length ks in
-    let eq′ : q ≡ x + lengthBranch layout32 b = eq ∙ ap (λ (i : ℕ). i + lengthBranch layout32 b) es in
-    let ec′ : c ≡ childOf layout32 b x = ec ∙ ap (childOf layout32 b) es in
-    behind-by b 8 (some-align ks vs same p few) h n out o₁ o₂ o₃ (length-writeBranch layout32 b x)
-    (e₁ ∙ ap (λ (i : ℕ). put out h (replicate (i - h) 0)) es)
-    (e₂ ∙ ap (λ (i : ℕ). put o₁ i (writeBranch layout32 b i)) es)
-    (e₃ ∙ ap₂ (λ (i : ℕ) (y : Child). put o₂ i (recordBytes layout32 i y n)) eq′ ec′)
+module _ (L : Layout) where
+  -- The record: the offset q, as the field holds it, and the count.
+  pub record-by : (out o₁ o₂ : List ℕ) (p n q w : ℕ) (c : Child) → w ≡ pointer L → leBytes (pointer L) q ≡ offsetBytes L p c
+      → o₁ ≡ put out p (leBytes (pointer L) q) → o₂ ≡ put o₁ (p + w) (leBytes (pointer L) n) → o₂ ≡ put out p (recordBytes L p c n)
+  record-by out o₁ o₂ p n q w c ew e e₁ e₂ =
+      e₂
+      ∙ ap₂ (λ (o : List ℕ) (x : ℕ). put o (p + x) (leBytes (pointer L) n)) (e₁ ∙ ap (put out p) e) ew
+      ∙ sym (put-then out p (pointer L) (offsetBytes L p c) (leBytes (pointer L) n) (length-offset L p c))
+
+  -- Zeros, the nodes and the record, one after the other.
+  pub behind-by : (b : Branch) (h n a s q : ℕ) (c : Child) (out o₁ o₂ o₃ : List ℕ) → firstAlign L b ≡ a → s ≡ h + zerosTo a h
+      → q ≡ s + lengthBranch L b → c ≡ childOf L b s
+      → o₁ ≡ put out h (replicate (s - h) 0) → o₂ ≡ put o₁ s (writeBranch L b s) → o₃ ≡ put o₂ q (recordBytes L q c n)
+      → o₃ ≡ put out h (behind L h b n)
+  unfolding behind
+  behind-by b h n a s q c out o₁ o₂ o₃ ea es eq ec e₁ e₂ e₃ =
+      let z = zerosTo (firstAlign L b) h in
+      let p = h + z in
+      let r = recordBytes L (p + lengthBranch L b) (childOf L b p) n in
+      let ep : s ≡ p = es ∙ ap (λ (x : ℕ). h + zerosTo x h) (sym ea) in
+      let ez : s - h ≡ z = omega (arith, ep) in
+      let o : List ℕ = put out h (replicate z 0) in
+      e₃
+      ∙ ap₂ (λ (x : ℕ) (y : Child). put o₂ x (recordBytes L x y n)) (eq ∙ ap (λ (x : ℕ). x + lengthBranch L b) ep) (ec ∙ ap (childOf L b) ep)
+      ∙ ap (λ (x : List ℕ). put x (p + lengthBranch L b) r)
+      (e₂ ∙ ap₂ (λ (x : List ℕ) (y : ℕ). put x y (writeBranch L b y)) (e₁ ∙ ap (λ (x : ℕ). put out h (replicate x 0)) ez) ep)
+      ∙ sym (put-then o p (lengthBranch L b) (writeBranch L b p) r (length-writeBranch L b p))
+      ∙ sym (put-then out h z (replicate z 0) (writeBranch L b p ++ r) (length-replicate z 0))
+
+-- ---- what is known before a byte is written
+
+-- No entries make no nodes.
+module _ (L : Layout) where
+  pub none-last : lastLevel L 0 ≡ 0
+  unfolding lastLevel
+  none-last = omega arith
+
+  pub none-height : height L 0 - 1 ≡ 0
+  unfolding height logFrom
+  none-height = refl
+
+  none-weight : weight L 0 0 ≡ 0
+  unfolding weight
+  none-weight = refl
+
+  none-nodes : nodesOf L 0 ≡ 0
+  none-nodes = ap₂ (weight L) none-height none-last ∙ none-weight
+
+module _ (L : Layout) (n h : ℕ) where
+  pub none-planned : n ≡ 0 → (s w r : ℕ) → s ≡ h + zerosTo w h → w ≡ pointer L → r ≡ recordSize L
+      → Planned L n h (record { above = 0; last = 0; first = s; end = s + r; fits = true })
+  none-planned z s w r es ew er =
+      let first = es ∙ ap (λ (x : ℕ). h + zerosTo x h) ew in
+      let far : reachOf L 0 ≡ 0 = ap (λ (x : ℕ). reach L x (lastLevel L 0)) (none-height L) in
+      rw z
+      (record {
+        above = sym (none-height L);
+        last = sym (none-last L);
+        first = first;
+        end = omega (arith, first, er, none-nodes L);
+        fits = sym (le-leb (reachOf L 0) (2 ^ signBits (L .width)) (omega (arith, far)));
+      })
+
+  pub some-planned : (N : Named L n) (p : 0 < n) {v : Levels} (K : Leveled L n v) (s w r : ℕ) (b : Bool) → s ≡ h + zerosTo nodeAlign h → w ≡ nodesOf L n
+      → r ≡ recordSize L → b ≡ fitsWidth L n
+      → Planned L n h (record { above = v .above; last = n - (v .power - 1); first = s; end = s + w + r; fits = b })
+  some-planned N p {v} K s w r b es ew er eb =
+      let first : s ≡ h + zerosTo (firstAlignOf L n) h = es ∙ ap (λ (x : ℕ). h + zerosTo x h) (sym (some-align n p)) in
+      record { above = K .above; last = fits L n N p K .last; first = first; end = omega (arith, first, ew, er); fits = eb }
+    where
+      some-align : (n : ℕ) → 0 < n → firstAlignOf L n ≡ nodeAlign
+      some-align zero p = absurd (omega arith)
+      some-align (suc n) p = refl

@@ -1,23 +1,53 @@
--- The archive's length by the number of entries alone. Assumes nothing: these are definitions.
-use Prim.Native.Nat.{ℕ, zero, suc, _+_, _-_, _*_, _^_}
-use Rattle.format.specs.Layout.{layout32}
+-- What is known of an archive by the number of entries alone. Assumes nothing: these are definitions.
+use Prim.Native.Nat.{ℕ, zero, suc, _+_, _-_, _^_, _≤_}
+use mathlib.Core.Path.{_≡_}
+use mathlib.Core.Bool.{Bool}
+use lib.Dec.{leb}
+use Rattle.format.specs.Layout.{Layout, signBits, nodeAlign, recordSize, recordAlign}
 use Rattle.format.specs.Align.{zerosTo}
 use Rattle.format.specs.Build.{height, lastLevel}
+use Rattle.format.specs.Weight.{upper, weight, reach, innersOver}
+use Rattle.builder.specs.declared.size.Levels.{Levels}
+use Rattle.builder.specs.declared.size.Plan.{Plan}
 
--- The bytes of k children, each of which takes up to c of the last level's m entries and has g bytes.
-abbrev pub weighs : (ℕ → ℕ) → ℕ → ℕ → ℕ → ℕ
-weighs g c zero m = 0
-weighs g c (suc k) m = g m + weighs g c k (m - c)
+-- What 24 and 11 let through.
+pub record Named (L : Layout) (n : ℕ) : Type 0 where
+  pub least : 3 ≤ L .entries
+  pub most : L .entries ≤ 15
+  pub few : n ≤ 40000
 
--- The bytes of a subtree with l levels above the last one, which takes at most m entries.
-unfoldable pub weight : ℕ → ℕ → ℕ
-weight zero zero = 0
-weight zero (suc m) = 96
-weight (suc zero) zero = 96
-weight (suc zero) (suc m) = weighs (weight zero) 5 6 (suc m) + 112
-weight (suc (suc l)) m = weighs (weight (suc l)) (5 * 6 ^ suc l) 6 m + 112
+-- The alignment of what comes first after the header.
+abbrev pub firstAlignOf : Layout → ℕ → ℕ
+firstAlignOf L zero = recordAlign L
+firstAlignOf L (suc n) = nodeAlign
 
--- The end of an archive of n entries behind a header of h bytes.
-unfoldable pub endOf : ℕ → ℕ → ℕ
-endOf zero h = h + zerosTo 4 h + 8
-endOf (suc n) h = h + zerosTo 8 h + weight (height layout32 (suc n) - 1) (lastLevel layout32 (suc n)) + 8
+module _ (L : Layout) (n : ℕ) where
+  -- The bytes of the nodes of n entries.
+  abbrev pub nodesOf : ℕ
+  nodesOf = weight L (height L n - 1) (lastLevel L n)
+
+  -- The end of an archive of n entries behind a header of h bytes.
+  abbrev pub endOf : ℕ → ℕ
+  endOf h = h + zerosTo (firstAlignOf L n) h + nodesOf + recordSize L
+
+  -- How far the longest offset leads, and whether the width holds it.
+  abbrev pub reachOf : ℕ
+  reachOf = reach L (height L n - 1) (lastLevel L n)
+
+  abbrev pub fitsWidth : Bool
+  fitsWidth = leb reachOf (2 ^ signBits (L .width))
+
+  -- The levels of n entries.
+  pub record Leveled (v : Levels) : Type 0 where
+    pub above : v .above ≡ height L n - 1
+    pub power : v .power ≡ suc (upper L (v .above))
+    pub over : (k : ℕ) → v .above ≡ suc k → v .over ≡ suc (upper L k)
+    pub inners : v .higher + v .over ≡ innersOver L (v .above)
+
+  -- What a build of n entries behind a header of h bytes knows before it writes.
+  pub record Planned (h : ℕ) (p : Plan) : Type 0 where
+    pub above : p .above ≡ height L n - 1
+    pub last : p .last ≡ lastLevel L n
+    pub first : p .first ≡ h + zerosTo (firstAlignOf L n) h
+    pub end : p .end ≡ endOf h
+    pub fits : p .fits ≡ fitsWidth

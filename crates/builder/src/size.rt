@@ -1,54 +1,121 @@
-// The archive's length by the number of entries, with no walk over them.
+// What is known of an archive by the number of entries, with no walk over them: its levels, its end, and whether its offsets fit.
 use fields::least::least;
+use fields::rel_ptr::ones;
 use fields::ser::writer::Aligned;
 use fields::ser::writer::align;
-use format::Common;
 use format::Layout;
-use serialize::height::depth_of;
-use serialize::height::power_of_6;
 ghost use mathlib.Core.Path.{_≡_};
 ghost use mathlib.Core.Bool.{true};
-ghost use Prim.Native.Nat.{_+_, _-_, _/_, _^_, _<_, _≤_};
+ghost use Prim.Native.Nat.{suc, _+_, _-_, _*_, _^_, _<_, _≤_, min};
 ghost use Rattle.format.specs.Align.{isAlignment, zerosTo};
-ghost use Rattle.builder.specs.Size.{weight, endOf};
+ghost use Rattle.format.specs.Layout.{layoutOf, leafSize, innerSize};
+ghost use Rattle.format.specs.Weight.{up, sizeBy};
+ghost use Rattle.builder.specs.Size.{Named, nodesOf, reachOf, fitsWidth, Leveled, Planned};
+
+// The levels above the last one (rkyv's `entries_to_height`), the power of the number of children, of which one less is the entries there, the nodes
+// right over the last level, and the nodes above those.
+pub struct Levels {
+    pub above: usize,
+    pub power: usize,
+    pub over: usize,
+    pub higher: usize,
+}
+
+fn levels_of(layout: Layout, n: usize) -> Levels
+    requires { ⌜ Named (layoutOf layout) n × (0 < n) ⌝ }
+    ensures { λ r. ⌜ Leveled (layoutOf layout) n r ⌝ }
+{
+    let mut above: usize = 0;
+    let mut power: usize = 1;
+    let mut over: usize = 0;
+    let mut higher: usize = 0;
+    while power * (layout.entries + 1) <= n {
+        higher += over;
+        over = power;
+        power = power * (layout.entries + 1);
+        above += 1;
+    }
+    Levels {
+        above,
+        power,
+        over,
+        higher,
+    }
+}
 
 // As many as t entries need where each takes up to `each`.
 fn needed(t: usize, each: usize) -> usize
     requires { ⌜ (0 < each) × (t + each < 2 ^ 63) ⌝ }
-    ensures { λ r. ⌜ r ≡ (t + (each - 1)) / each ⌝ }
+    ensures { λ r. ⌜ r ≡ up t each ⌝ }
 {
     (t + (each - 1)) / each
 }
 
-// The entries of the leaves below one inner node where all are full.
-struct Full;
-
-impl Full {
-    const BELOW: usize = Common::ENTRIES * Common::CHILDREN;
+// The bytes of a subtree with p nodes over the last level, which takes at most m entries, and q nodes above those. As many of the p as the last level
+// needs are inner nodes, the others full leaves.
+fn size_over(layout: Layout, p: usize, q: usize, m: usize) -> usize
+    requires { ⌜ Named (layoutOf layout) m × (0 < p) × (p ≤ 40000) × (q ≤ 40000) ⌝ }
+    ensures { λ r. ⌜ r ≡ sizeBy (leafSize (layoutOf layout)) (innerSize (layoutOf layout)) (layout .entries) p q
+        (min m (layout .entries * suc (layout .entries) * p)) ⌝ }
+{
+    let below = layout.entries * (layout.entries + 1);
+    let t = least(m, below * p);
+    let inners = needed(t, below);
+    let leaves = needed(t, layout.entries) + (p - inners);
+    layout.leaf() * leaves + layout.inner() * (inners + q)
 }
 
-// The bytes of a subtree with l levels above the last one, which takes at most m entries. Over the last level stand p nodes, of which as many
-// as it needs are inner nodes; the others are full leaves.
-fn weight_of(l: usize, m: usize) -> usize
-    requires { ⌜ l ≤ 5 ⌝ }
-    ensures { λ r. ⌜ r ≡ weight l m ⌝ }
+// The bytes of the nodes of n entries.
+fn nodes_of(layout: Layout, v: Levels, n: usize) -> usize
+    requires { ⌜ Named (layoutOf layout) n × (0 < n) × Leveled (layoutOf layout) n v ⌝ }
+    ensures { λ r. ⌜ r ≡ nodesOf (layoutOf layout) n ⌝ }
 {
-    if l == 0 {
-        if m == 0 {
-            return 0;
-        }
-        return Common::LEAF;
+    if v.above == 0 {
+        return layout.leaf();
     }
-    let p = power_of_6(l - 1);
-    let t = least(m, Full::BELOW * p);
-    let leaves = needed(t, Common::ENTRIES);
-    let inners = needed(t, Full::BELOW);
-    Common::LEAF * (leaves + (p - inners)) + Common::INNER * (inners + (p - 1) / Common::ENTRIES)
+    size_over(layout, v.over, v.higher, n - (v.power - 1))
+}
+
+// How far back the root's first offset leads, the longest of all; `nodes` is the answer of `nodes_of`.
+fn reach_of(layout: Layout, v: Levels, n: usize, nodes: usize) -> usize
+    requires { ⌜ Named (layoutOf layout) n × (0 < n) × Leveled (layoutOf layout) n v ⌝ }
+    requires { ⌜ nodes ≡ nodesOf (layoutOf layout) n ⌝ }
+    ensures { λ r. ⌜ r ≡ reachOf (layoutOf layout) n ⌝ }
+{
+    if v.above == 0 {
+        return 0;
+    }
+    let beside = nodes - layout.inner();
+    if v.above == 1 {
+        return beside + layout.node();
+    }
+    let children = layout.entries + 1;
+    let first = size_over(
+        layout,
+        v.over / children,
+        (v.higher - 1) / children,
+        n - (v.power - 1),
+    );
+    layout.inner() + (beside - first) + layout.node()
+}
+
+// No offset leads further back than the nodes are long, so most trees need no second size.
+fn offsets_fit(layout: Layout, v: Levels, n: usize, nodes: usize) -> bool
+    requires { ⌜ Named (layoutOf layout) n × (0 < n) × Leveled (layoutOf layout) n v ⌝ }
+    requires { ⌜ nodes ≡ nodesOf (layoutOf layout) n ⌝ }
+    ensures { λ r. ⌜ r ≡ fitsWidth (layoutOf layout) n ⌝ }
+{
+    let width = layout.width;
+    let most = ones(width) / 2 + 1;
+    if nodes as u64 <= most {
+        return true;
+    }
+    reach_of(layout, v, n, nodes) as u64 <= most
 }
 
 // The first position on an alignment, from the header's end on.
-pub(crate) fn start_of(header: usize, alignment: usize) -> usize
-    requires { ⌜ (header ≤ 4096) × ((alignment ≤ 8) × (isAlignment alignment ≡ true)) ⌝ }
+fn start_of(header: usize, alignment: usize) -> usize
+    requires { ⌜ (header ≤ 4096) × (alignment ≤ 8) × (isAlignment alignment ≡ true) ⌝ }
     ensures { λ r. ⌜ r ≡ header + zerosTo alignment header ⌝ }
 {
     let Aligned::At { next, zeros } = align(header as u64, alignment as u64) else {
@@ -57,15 +124,38 @@ pub(crate) fn start_of(header: usize, alignment: usize) -> usize
     next as usize
 }
 
-// The archive's end behind a header.
-pub(crate) fn end_of(n: usize, header: usize) -> usize
-    requires { ⌜ (n ≤ 40000) × (header ≤ 4096) ⌝ }
-    ensures { λ r. ⌜ r ≡ endOf n header ⌝ }
+// The levels above the last one, what the last one takes, where the archive begins behind the header and where it ends, and whether the width holds all
+// offsets.
+pub struct Plan {
+    pub above: usize,
+    pub last: usize,
+    pub first: usize,
+    pub end: usize,
+    pub fits: bool,
+}
+
+pub(crate) fn plan_of(layout: Layout, n: usize, header: usize) -> Plan
+    requires { ⌜ Named (layoutOf layout) n × (header ≤ 4096) ⌝ }
+    ensures { λ r. ⌜ Planned (layoutOf layout) n header r ⌝ }
 {
     if n == 0 {
-        return start_of(header, Common::RECORD_ALIGN) + Common::RECORD;
+        let first = start_of(header, layout.pointer());
+        return Plan {
+            above: 0,
+            last: 0,
+            first,
+            end: first + layout.record(),
+            fits: true,
+        };
     }
-    let d = depth_of(n);
-    let p = power_of_6(d);
-    start_of(header, Layout::NODE_ALIGN) + weight_of(d, n - (p - 1)) + Common::RECORD
+    let v = levels_of(layout, n);
+    let nodes = nodes_of(layout, v, n);
+    let first = start_of(header, Layout::NODE_ALIGN);
+    Plan {
+        above: v.above,
+        last: n - (v.power - 1),
+        first,
+        end: first + nodes + layout.record(),
+        fits: offsets_fit(layout, v, n, nodes),
+    }
 }

@@ -132,14 +132,14 @@ pub fn build(out: &mut [u8], header: usize, keys: &[u64], values: &[u64]) -> Bui
     ensures answer { λ r. ⌜ builtOf r ≡ build layout32 (now (keys .entry)) (now (values .entry)) header (length (now (out .entry))) ⌝ }
     ensures bytes { λ r. ⌜ now (out .exit) ≡ outAfter layout32 (now (keys .entry)) (now (values .entry)) header (now (out .entry)) ⌝ }
 {
-    builder::build::build(out, header, keys, values)
+    builder::build::build(out, Layout::COMMON, header, keys, values)
 }
 
 // How long the output has to be for so many entries behind a header: where `build` will end.
 pub fn build_length(entries: usize, header: usize) -> BuildAnswer
     ensures { λ r. ⌜ builtOf r ≡ buildLength layout32 entries header ⌝ }
 {
-    builder::build::build_length(entries, header)
+    builder::build::build_length(Layout::COMMON, entries, header)
 }
 
 // The signed difference of two positions.

@@ -11,8 +11,11 @@ use Rattle.format.specs.Calls.{Walk, Matched}
 abbrev pub widthBy : ℕ → Width
 widthBy n = elim (eqb n 2) [ true ↦ Two | false ↦ elim (eqb n 8) [ true ↦ Eight | false ↦ Four ] ]
 
+abbrev pub anyLayout : ℕ → ℕ → Layout
+anyLayout w e = record { width = widthBy w; entries = e }
+
 abbrev pub layoutBy : ℕ → ℕ → Layout
-layoutBy w e = record { width = widthBy w; entries = min e 15 }
+layoutBy w e = anyLayout w (min e 15)
 
 -- What is given, as the number that f takes of it; a refusal as 2^64 - 1 less its number.
 abbrev pub word : {A : Type 0} → (A → ℕ) → Answer A → ℕ

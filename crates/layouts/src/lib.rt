@@ -1,5 +1,6 @@
-// The readers at every layout, exported for the comparison and the measurement only: what programs may call is in `exports`. An answer is the number
+// The readers and the builder at every layout, exported for the comparison and the measurement only: what programs may call is in `exports`. An answer is the number
 // that the call gives, or 2^64 - 1 less the refusal's number.
+use builder::build::BuildAnswer;
 use fields::least::least;
 use format::Bound;
 use format::CheckAnswer;
@@ -11,14 +12,16 @@ use readers::RangeAnswer;
 use readers::WalkAnswer;
 ghost use mathlib.Core.Path.{_≡_};
 ghost use Prim.Native.Nat.{_-_, _≤_, _^_};
+ghost use lib.ListN.{length};
 ghost use Rattle.format.specs.declared.Bound.the-variants.{Included};
 ghost use Rattle.format.specs.Layout.{layoutOf, standard};
 ghost use Rattle.format.specs.Refusal.{number, checkOf};
 ghost use Rattle.format.specs.Check.{counted, checkArchive};
 ghost use Rattle.format.specs.Certify.{certify};
 ghost use Rattle.format.specs.Calls.{walkCall, walkKeys, walkValues, rangeCall, rangeKeys, rangeValues};
+ghost use Rattle.format.specs.Build.{build, outAfter};
 ghost use Rattle.lookups.specs.Many.{manyCall, manyValues};
-ghost use Rattle.layouts.specs.Named.{widthBy, layoutBy, word, written, matching};
+ghost use Rattle.layouts.specs.Named.{widthBy, layoutBy, anyLayout, word, written, matching};
 
 // A width by its bytes: 2, 8, and 4 for any other number.
 fn width_of(bytes: u8) -> Width
@@ -146,5 +149,28 @@ pub extern "C" fn layouts_range(
     match readers::range(archive, layout, from, to, keys, values) {
         RangeAnswer::Matched(_, all) => all as u64,
         RangeAnswer::Refused(why) => refused(why),
+    }
+}
+
+// The end of the archive that is built. Any number of entries a node may be named.
+#[no_mangle]
+pub extern "C" fn layouts_build(
+    output: &mut [u8],
+    width: u8,
+    entries: usize,
+    header: usize,
+    keys: &[u64],
+    values: &[u64],
+) -> u64
+    ensures answer { λ r. ⌜ r
+        ≡ word (λ n. n) (build (layoutOf (anyLayout width entries)) (now (keys .entry)) (now (values .entry)) header (length (now (output .entry)))) ⌝ }
+    ensures bytes { λ r. ⌜ now (output .exit)
+        ≡ outAfter (layoutOf (anyLayout width entries)) (now (keys .entry)) (now (values .entry)) header (now (output .entry)) ⌝ }
+{
+    let width = width_of(width);
+    let layout = Layout { width, entries };
+    match builder::build::build(output, layout, header, keys, values) {
+        BuildAnswer::Built(end) => end as u64,
+        BuildAnswer::Refused(why) => refused(why),
     }
 }

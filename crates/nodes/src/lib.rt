@@ -1,5 +1,4 @@
-// The open nodes of the builder and the bytes of closed ones.
+// The bytes of closed nodes, in the layout that is named.
 pub mod inline_vec;
 pub mod node;
-pub mod ser_vec;
 pub mod words;

@@ -1,5 +1,3 @@
-pub mod Answers
-pub mod Kept
-pub mod Leaves
-pub mod Lists
-pub mod Whole
+mod Children
+mod Taking
+mod Nodes

@@ -1,3 +1,2 @@
-// The streaming builder: the nodes of all entries, one after the other.
-pub mod height;
+// The nodes of all entries.
 pub mod map;

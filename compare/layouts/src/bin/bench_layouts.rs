@@ -21,6 +21,8 @@ use compare::measure::{best, heading, row, Lent};
 use compare::rkyv_map::{self, Archive, WIDTH};
 use compare::trees::Random;
 use layouts::ours::Named;
+use rkyv::ser::allocator::Arena;
+use rkyv::util::AlignedVec;
 
 /// Keys looked up in one go.
 const LOOKUPS: usize = 1_000;
@@ -46,6 +48,7 @@ fn measure<const N: usize>() {
         let archive = &Archive::copy(&rkyv_map::build_of::<N>(&[], &keys, &values));
         measure_readers::<N>(archive, &keys);
         measure_range::<N>(archive, &keys);
+        measure_build::<N>(archive.bytes(), &keys, &values);
     }
     println!();
 }
@@ -110,4 +113,19 @@ fn measure_range<const N: usize>(archive: &Archive, keys: &[u64]) {
         range(accepted::<N>(archive).map(), bounds, lent)
     });
     row(entries, "the same, rkyv not certifying", times);
+}
+
+fn measure_build<const N: usize>(archive: &[u8], keys: &[u64], values: &[u64]) {
+    let named = named::<N>();
+    let (mut output, mut arena) = (AlignedVec::new(), Arena::new());
+    let mut lent = vec![0; archive.len()];
+    named.build(&mut lent, 0, keys, values).unwrap();
+    assert_eq!(lent, archive, "the same bytes");
+    let build = |_: &mut Lent| named.build(&mut lent, 0, black_box(keys), values).unwrap() as usize;
+    let times = best(0, Some(build), |_| {
+        output.clear();
+        rkyv_map::build_into::<N>(&mut output, &mut arena, black_box(keys), values).unwrap();
+        output.len()
+    });
+    row(keys.len(), "build", times);
 }

@@ -1,14 +1,9 @@
 -- `fields::primitive::uint_at` meets its contract. Assumes nothing.
-use mathlib.Core.Path.{_≡_, ap}
 use native.Mathlib.Omega.{arith}
 use borrow.Author.Needs.{needs}
-use Rattle.format.specs.declared.Width.{Width}
-use Rattle.format.specs.Layout.{bytes, widthOf}
+use Rattle.fields.proofs.Widths.{as-bytes}
 use Rattle.fields.proofs.primitive.uint_at.Statement.{statement}
 use Rattle.fields.proofs.primitive.uint_at.Tie as tie
-
-as-bytes : {v w : Width} → v ≡ w → bytes (widthOf v) ≡ bytes (widthOf w)
-as-bytes e = ap (λ (w : Width). bytes (widthOf w)) e
 
 pub uint-at-spec : {M : Type 1} → statement M
 uint-at-spec =

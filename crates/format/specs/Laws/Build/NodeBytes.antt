@@ -16,7 +16,7 @@ use Rattle.format.specs.Tree.{writeT, writeBranches, writeBranch}
 use Rattle.format.specs.TreeShape.{own, fieldB, fieldsB}
 use Rattle.format.specs.Laws.Numbers.Bytes.{length-leBytes}
 
-pub length-column : (get : KeyValue → ℕ) (n : ℕ) (es : List KeyValue) → length (column get n es) ≡ 8 * n
+pub length-column : {A : Type 0} (get : A → ℕ) (n : ℕ) (es : List A) → length (column get n es) ≡ 8 * n
 length-column get zero es = refl
 length-column get (suc n) [] = simp (length-append, length-leBytes) (omega (arith, length-column get n []))
 length-column get (suc n) (e ∷ es) = simp (length-append, length-leBytes) (omega (arith, length-column get n es))
