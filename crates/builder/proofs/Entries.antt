@@ -96,10 +96,11 @@ module _ (L : Layout) (ks vs : List ℕ) (h : ℕ) (N : Named L (length ks)) (sa
     record-fits = omega (arith, W .at, ap (lengthBranch L) filled, parts)
 
     pub archive-by : (out o₃ : List ℕ) → o₁ ≡ put out h (replicate (q .first - h) 0)
-        → o₃ ≡ put o₂ (r .at .0) (recordBytes L (r .at .0) (childAt (r .child .0)) (length ks))
+        → o₃ ≡ put o₂ (r .at .0) (recordBytes L (r .at .0) (childAt (r .child .0)) (q .entries))
         → o₃ ≡ put out h (behind L h (treeOf L (pairs ks vs)) (length ks))
     unfolding tree
     archive-by out o₃ e₁ e₃ =
         let a = first-align L (pairs ks vs) one ∙ ap (firstAlignOf L) all in
         let S = subst (Stands L (q .first) r o₁ o₂) filled (record { at = W .at; child = W .child; bytes = W .bytes }) in
-        behind-by L tree h (length ks) _ (q .first) (r .at .0) (childAt (r .child .0)) out o₁ o₂ o₃ a (P .first) (S .at) (S .child) e₁ (S .bytes) e₃
+        behind-by L tree h (length ks) _ (q .first) (r .at .0) (childAt (r .child .0)) out o₁ o₂ o₃ a (P .first) (S .at) (S .child) e₁ (S .bytes)
+        (e₃ ∙ ap (λ (n : ℕ). put o₂ (r .at .0) (recordBytes L (r .at .0) (childAt (r .child .0)) n)) (P .entries))

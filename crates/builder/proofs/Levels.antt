@@ -1,6 +1,6 @@
 -- The levels of n entries, and the nodes on them. Assumes nothing.
 use Prim.Native.Nat.{ℕ, zero, suc, _+_, _-_, _*_, _≤_, _<_}
-use mathlib.Core.Path.{_≡_, refl, sym, ap, _∙_}
+use mathlib.Core.Path.{_≡_, refl, ap, _∙_}
 use native.Mathlib.Omega.{arith}
 use native.Mathlib.Decide.{decLt}
 use native.Mathlib.Nat.{mul-le-mul-left, mul-le-mul-right, mul-le-mul, suc-inj}
@@ -12,10 +12,6 @@ use Rattle.format.specs.Laws.Build.Height.{fitting}
 use Rattle.format.specs.Laws.Build.Sizes.{upper-inners}
 use Rattle.builder.specs.declared.size.Levels.{Levels}
 use Rattle.builder.specs.Size.{Named, Leveled}
-
--- A product is bounded by the factors' bounds.
-pub times : (x y a b : ℕ) → x ≤ a → y ≤ b → x * y ≤ a * b
-times x y a b h l = mul-le-mul h l
 
 -- With so many levels found.
 pub record Climbing (L : Layout) (n : ℕ) (v : Levels) : Type 0 where
@@ -70,7 +66,7 @@ module _ (L : Layout) (n : ℕ) (N : Named L n) where
   pub climbing-small : {v : Levels} → Climbing L n v → (v .power * (L .entries + 1) ≤ 640000) × (v .higher + v .over ≤ n)
   climbing-small {v} C =
       let g = mul-le-mul-right {m = 1} {n = L .entries} (innersOver L (v .above)) some in (
-        times (v .power) (L .entries + 1) 40000 16 (omega (arith, C .low, N .few)) (omega (arith, N .most)),
+        mul-le-mul {n₁ = v .power} {m₁ = L .entries + 1} {n₂ = 40000} {m₂ = 16} (omega (arith, C .low, N .few)) (omega (arith, N .most)),
         omega (arith, C .inners, C .power, C .low, upper-inners L some (v .above), g),
       )
 

@@ -2,9 +2,9 @@
 use Prim.Native.Nat.{ℕ, zero, suc, _+_, _-_, _*_, _/_, _≤_, _<_, min}
 use mathlib.Core.Path.{_≡_, refl, sym, ap, ap₂, _∙_}
 use native.Mathlib.Omega.{arith}
-use native.Mathlib.Nat.{mul-le-mul-right, mul-div-cancel-left}
+use native.Mathlib.Nat.{mul-le-mul, mul-le-mul-right, mul-div-cancel-left}
 use Rattle.format.specs.Layout.{Layout, headSize, leafSize, innerSize}
-use Rattle.format.specs.Build.{height, lastLevel}
+use Rattle.format.specs.Build.{lastLevel}
 use Rattle.format.specs.Weight.{upper, weight, firstOwn, reach, innersOver, up, sizeBy}
 use Rattle.format.specs.Laws.Build.Filling.{full}
 use Rattle.format.specs.Laws.Build.Near.{inner-room}
@@ -12,7 +12,7 @@ use Rattle.format.specs.Laws.Build.Sizes.{up-most, upper-inners, weight-size}
 use Rattle.format.specs.Laws.Build.Farthest.{by-weight}
 use Rattle.builder.specs.declared.size.Levels.{Levels}
 use Rattle.builder.specs.Size.{Named, nodesOf, reachOf, Leveled}
-use Rattle.builder.proofs.Levels.{times, Fits, fits, over-is}
+use Rattle.builder.proofs.Levels.{Fits, fits, over-is}
 
 -- ---- the formula
 
@@ -20,7 +20,7 @@ use Rattle.builder.proofs.Levels.{times, Fits, fits, over-is}
 pub below-few : (e : ℕ) → 3 ≤ e → e ≤ 15 → (0 < e * (e + 1)) × (e * (e + 1) ≤ 240)
 below-few e some few =
     let g = mul-le-mul-right {m = 1} {n = e} (e + 1) (omega arith) in
-    (omega (arith, g), times e (e + 1) 15 16 few (omega arith))
+    (omega (arith, g), mul-le-mul {n₁ = e} {m₁ = e + 1} {n₂ = 15} {m₂ = 16} few (omega arith))
 
 module _ (e p m t i l : ℕ) (et : t ≡ min m (e * (e + 1) * p)) (ei : i ≡ up t (e * (e + 1))) (el : l ≡ up t e) where
   -- No more inner nodes than stand over the last level, and no more leaves than entries.
@@ -50,9 +50,9 @@ pub reach-within : (L : Layout) (h m : ℕ) → 0 < m → reach L h m ≤ weight
 reach-within L zero m p = omega arith
 reach-within L (suc h) m p = omega (arith, by-weight L h m p, own-weighs L h m p, inner-room L)
 
-pub not-none : (n : ℕ) → (n ≡ 0 → ⊥) → 0 < n
-not-none zero h = absurd (h refl)
-not-none (suc n) h = omega arith
+-- The first child of the root has f bytes: then it is among the children, and this is how far the root's first offset leads.
+abbrev pub FirstChild : Layout → ℕ → ℕ → Type 0
+FirstChild L n f = (f ≤ nodesOf L n - innerSize L) × (innerSize L + (nodesOf L n - innerSize L - f) + headSize L ≡ reachOf L n)
 
 -- A number that is not 0 comes after another.
 pub before : (n : ℕ) → (n ≡ 0 → ⊥) → n ≡ suc (n - 1)
@@ -124,14 +124,13 @@ module _ (L : Layout) (n : ℕ) (N : Named L n) (p : 0 < n) {v : Levels} (K : Le
 
   -- Two levels of inner nodes or more: the nodes of the first child are one level less.
   module _ (k : ℕ) (e : v .above ≡ suc (suc k)) where
-    o : ℕ
+    abbrev o : ℕ
     o = v .over / (L .entries + 1)
 
-    q : ℕ
+    abbrev q : ℕ
     q = (v .higher - 1) / (L .entries + 1)
 
     first-over : (o ≡ suc (upper L k)) × (q ≡ innersOver L k)
-    unfolding o q
     first-over =
         let c = L .entries + 1 in
         let (eo, eq) = over-is L n N p K (suc k) e in
@@ -142,7 +141,6 @@ module _ (L : Layout) (n : ℕ) (N : Named L n) (p : 0 < n) {v : Levels} (K : Le
         )
 
     pub first-few : (0 < v .higher) × (0 < v .over / (L .entries + 1)) × (v .over / (L .entries + 1) ≤ n) × ((v .higher - 1) / (L .entries + 1) ≤ n)
-    unfolding o q
     first-few =
         let (eo, eq) = over-is L n N p K (suc k) e in
         let (fo, fq) = first-over in
@@ -155,12 +153,10 @@ module _ (L : Layout) (n : ℕ) (N : Named L n) (p : 0 < n) {v : Levels} (K : Le
           omega (arith, fq, u, g, full L k, eo, few .1),
         )
 
-    -- What the first child takes, and how far its own node is from the root's first field.
     pub reach-more : (f m : ℕ) → m ≡ lastLevel L n
         → f ≡ sizeBy (leafSize L) (innerSize L) (L .entries) (v .over / (L .entries + 1)) ((v .higher - 1) / (L .entries + 1))
         (min m (L .entries * suc (L .entries) * (v .over / (L .entries + 1))))
-        → (f ≤ nodesOf L n - innerSize L) × (innerSize L + (nodesOf L n - innerSize L - f) + headSize L ≡ reachOf L n)
-    unfolding o q
+        → FirstChild L n f
     reach-more f m em ef =
         let (fo, fq) = first-over in
         let t = L .entries * suc (L .entries) * o in

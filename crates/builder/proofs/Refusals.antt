@@ -1,23 +1,23 @@
 -- Each refusal of a build and its acceptance, by what the tests told. Assumes nothing.
-use mathlib.Core.Path.{_≡_, refl, sym, ap, _∙_}
-use mathlib.Core.Bool.{Bool, true, false, not}
+use mathlib.Core.Path.{_≡_, sym, ap, _∙_}
+use mathlib.Core.Bool.{Bool, true, false}
 use mathlib.Core.List.{List}
-use Prim.Native.Nat.{ℕ, _+_, _-_, _^_, _≤_, _<_}
+use Prim.Native.Nat.{ℕ, _+_, _≤_, _<_}
 use native.Mathlib.Omega.{arith}
-use borrow.Author.Tests.{le-leb, lt-leb, eq-eqb, ne-eqb, not-true, not-false}
+use borrow.Author.Tests.{le-leb, lt-leb, eq-eqb, ne-eqb}
 use lib.ListN.{length, replicate, length-replicate}
-use lib.Dec.{leb, eqb}
-use Rattle.format.specs.Layout.{Layout, signBits}
+use lib.Dec.{leb}
+use Rattle.format.specs.Layout.{Layout}
 use Rattle.format.specs.Bytes.{put}
 use Rattle.format.specs.Refusal.{Answer, gives, refuses, provided}
 use Rattle.format.specs.Offsets.{archiveEmplaces}
 use Rattle.format.specs.Tree.{KeyValue}
-use Rattle.format.specs.Build.{height, lastLevel, treeOf, start, behind, pairs, rises, entriesInRange, build, buildLength, outBy, outAfter}
+use Rattle.format.specs.Build.{treeOf, start, behind, pairs, rises, entriesInRange, build, buildLength, outBy, outAfter}
 use Rattle.format.specs.Laws.Build.Given.{length-pairs}
 use Rattle.format.specs.Laws.Build.Taken.{passes, fails, range-in}
 use Rattle.format.specs.Laws.Build.Certifies.{emplaces-by}
 use Rattle.builder.specs.declared.size.Plan.{Plan}
-use Rattle.builder.specs.Size.{Named, endOf, fitsWidth, Planned}
+use Rattle.builder.specs.Size.{Named, fitsWidth, Planned}
 use Rattle.builder.proofs.Whole.{end-is}
 
 -- What 24 and 11 let through.
@@ -60,12 +60,10 @@ module _ (L : Layout) (ks vs : List ℕ) (h : ℕ) (out : List ℕ) where
 
       module _ (b : length ks ≤ 40000) where
         -- From 12 on.
-        abbrev Later : Answer ℕ → Type 0
-        Later x = build L ks vs h (length out) ≡ provided (rises ks) 12 (provided (leb h 4096) 13 x)
-
         later : let t = treeOf L (pairs ks vs) in
             let n = h + length (behind L h t (length ks)) in
-            Later (provided (leb n (length out)) 14 (provided (archiveEmplaces L t (start L t h)) 16 (gives n)))
+            build L ks vs h (length out)
+            ≡ provided (rises ks) 12 (provided (leb h 4096) 13 (provided (leb n (length out)) 14 (provided (archiveEmplaces L t (start L t h)) 16 (gives n))))
         unfolding build
         later = passes r _ _ ∙ passes (eq-eqb (length ks) (length vs) a) _ _ ∙ passes (le-leb (length ks) 40000 b) _ _
 

@@ -43,13 +43,14 @@ module _ (h a : ℕ) (low : h ≤ 4096) (few : a ≤ 8) (is : isAlignment a ≡ 
   stepped : alignStep h a ≡ gives start
   stepped = let z = zeros-lt a h (alignment-pos a is) in step-given h a is (omega arith) (omega arith)
 
-  pub start-some : (s : Step) → gives s ≡ alignStep h a → s .next ≡ h + zerosTo a h
+  pub start-some : (s : Step) → gives s ≡ alignStep h a → (s .next ≡ h + zerosTo a h) × (s .next < h + 8)
   start-some s e =
       let y : gives s ≡ gives start = e ∙ stepped in
       let x : s ≡ start = cc in
-      ap (λ (t : Step). t .next) x
+      let n = ap (λ (t : Step). t .next) x in
+      (n, omega (arith, n, zeros-lt a h (alignment-pos a is)))
 
-  pub start-none : (n : ℕ) → refuses n ≡ alignStep h a → h ≡ h + zerosTo a h
+  pub start-none : (n : ℕ) → refuses n ≡ alignStep h a → (h ≡ h + zerosTo a h) × (h < h + 8)
   start-none n e =
       let y : refuses n ≡ gives start = e ∙ stepped in
       let x : _≡_ {A = ℕ} 0 1 = cc in absurd (omega arith)
@@ -126,12 +127,13 @@ module _ (L : Layout) where
 
 module _ (L : Layout) (n h : ℕ) where
   pub none-planned : n ≡ 0 → (s w r : ℕ) → s ≡ h + zerosTo w h → w ≡ pointer L → r ≡ recordSize L
-      → Planned L n h (record { above = 0; last = 0; first = s; end = s + r; fits = true })
+      → Planned L n h (record { entries = 0; above = 0; last = 0; first = s; end = s + r; fits = true })
   none-planned z s w r es ew er =
       let first = es ∙ ap (λ (x : ℕ). h + zerosTo x h) ew in
       let far : reachOf L 0 ≡ 0 = ap (λ (x : ℕ). reach L x (lastLevel L 0)) (none-height L) in
       rw z
       (record {
+        entries = refl;
         above = sym (none-height L);
         last = sym (none-last L);
         first = first;
@@ -141,10 +143,10 @@ module _ (L : Layout) (n h : ℕ) where
 
   pub some-planned : (N : Named L n) (p : 0 < n) {v : Levels} (K : Leveled L n v) (s w r : ℕ) (b : Bool) → s ≡ h + zerosTo nodeAlign h → w ≡ nodesOf L n
       → r ≡ recordSize L → b ≡ fitsWidth L n
-      → Planned L n h (record { above = v .above; last = n - (v .power - 1); first = s; end = s + w + r; fits = b })
+      → Planned L n h (record { entries = n; above = v .above; last = n - (v .power - 1); first = s; end = s + w + r; fits = b })
   some-planned N p {v} K s w r b es ew er eb =
       let first : s ≡ h + zerosTo (firstAlignOf L n) h = es ∙ ap (λ (x : ℕ). h + zerosTo x h) (sym (some-align n p)) in
-      record { above = K .above; last = fits L n N p K .last; first = first; end = omega (arith, first, ew, er); fits = eb }
+      record { entries = refl; above = K .above; last = fits L n N p K .last; first = first; end = omega (arith, first, ew, er); fits = eb }
     where
       some-align : (n : ℕ) → 0 < n → firstAlignOf L n ≡ nodeAlign
       some-align zero p = absurd (omega arith)

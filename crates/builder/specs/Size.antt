@@ -46,6 +46,7 @@ module _ (L : Layout) (n : ℕ) where
 
   -- What a build of n entries behind a header of h bytes knows before it writes.
   pub record Planned (h : ℕ) (p : Plan) : Type 0 where
+    pub entries : p .entries ≡ n
     pub above : p .above ≡ height L n - 1
     pub last : p .last ≡ lastLevel L n
     pub first : p .first ≡ h + zerosTo (firstAlignOf L n) h

@@ -12,7 +12,7 @@ use serialize::map::Place;
 use serialize::map::serialize_from_ordered_iter;
 ghost use mathlib.Core.Path.{_≡_};
 ghost use Prim.Native.Nat.{_+_, _≤_};
-ghost use lib.ListN.{length, drop};
+ghost use lib.ListN.{length};
 ghost use Rattle.format.specs.Layout.{layoutOf, recordSize};
 ghost use Rattle.format.specs.Bytes.{put};
 ghost use Rattle.format.specs.Build.{treeOf, recordBytes, behind, pairs, rises, build, buildLength, outAfter};
@@ -60,7 +60,7 @@ fn ascending(keys: &[u64]) -> bool
     true
 }
 
-// The record: the root's offset and the count.
+// The record (rkyv's `resolve_from_len`): the root's offset and the count.
 fn resolve_from_len(out: &mut [u8], layout: Layout, at: Position, root: ChildPos, n: usize)
     requires { ⌜ at .0 + recordSize (layoutOf layout) ≤ length (now out) ⌝ }
     ensures { λ _. ⌜ now (out .exit) ≡ put (now (out .entry)) (at .0) (recordBytes (layoutOf layout) (at .0) (childAt (root .0)) n) ⌝ }
@@ -92,7 +92,7 @@ fn put_archive(out: &mut [u8], layout: Layout, header: usize, keys: &[u64], valu
     let nodes = serialize_from_ordered_iter(out, layout, keys, values, p.above, here);
     let end = nodes.at;
     let root = nodes.child;
-    resolve_from_len(out, layout, end, root, keys.len());
+    resolve_from_len(out, layout, end, root, p.entries);
 }
 
 // The given entries as an archive behind the first `header` bytes of the output, which stay.
@@ -125,14 +125,15 @@ pub fn build(
         return BuildAnswer::Refused(Refusal::HeaderTooLong);
     }
     let p = plan_of(layout, n, header);
-    if out.len() < p.end {
+    let end = p.end;
+    if out.len() < end {
         return BuildAnswer::Refused(Refusal::OutputTooShort);
     }
     if !p.fits {
         return BuildAnswer::Refused(Refusal::OffsetOverflow);
     }
     put_archive(out, layout, header, keys, values, p);
-    BuildAnswer::Built(p.end)
+    BuildAnswer::Built(end)
 }
 
 // How long the output has to be for so many entries behind a header.

@@ -116,7 +116,7 @@ fn offsets_fit(layout: Layout, v: Levels, n: usize, nodes: usize) -> bool
 // The first position on an alignment, from the header's end on.
 fn start_of(header: usize, alignment: usize) -> usize
     requires { ⌜ (header ≤ 4096) × (alignment ≤ 8) × (isAlignment alignment ≡ true) ⌝ }
-    ensures { λ r. ⌜ r ≡ header + zerosTo alignment header ⌝ }
+    ensures { λ r. ⌜ (r ≡ header + zerosTo alignment header) × (r < header + 8) ⌝ }
 {
     let Aligned::At { next, zeros } = align(header as u64, alignment as u64) else {
         return header;
@@ -124,9 +124,10 @@ fn start_of(header: usize, alignment: usize) -> usize
     next as usize
 }
 
-// The levels above the last one, what the last one takes, where the archive begins behind the header and where it ends, and whether the width holds all
-// offsets.
+// The number of entries, the levels above the last one, what the last one takes, where the archive begins behind the header and where it ends, and
+// whether the width holds all offsets.
 pub struct Plan {
+    pub entries: usize,
     pub above: usize,
     pub last: usize,
     pub first: usize,
@@ -141,6 +142,7 @@ pub(crate) fn plan_of(layout: Layout, n: usize, header: usize) -> Plan
     if n == 0 {
         let first = start_of(header, layout.pointer());
         return Plan {
+            entries: 0,
             above: 0,
             last: 0,
             first,
@@ -152,6 +154,7 @@ pub(crate) fn plan_of(layout: Layout, n: usize, header: usize) -> Plan
     let nodes = nodes_of(layout, v, n);
     let first = start_of(header, Layout::NODE_ALIGN);
     Plan {
+        entries: n,
         above: v.above,
         last: n - (v.power - 1),
         first,

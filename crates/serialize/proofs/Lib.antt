@@ -1,3 +1,3 @@
 mod Children
 mod Taking
-mod Nodes
+pub mod Nodes

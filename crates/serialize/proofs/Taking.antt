@@ -110,7 +110,8 @@ module _ (L : Layout) (ks vs : List ℕ) (h : ℕ) where
                     ap (λ (x : List Slot). ends L (fill L h) n out′ x (r .at .0) (r .last) (from ks vs (suc (r .next))))
                     (slots-more ks vs i (node .places) (node .lessers) (r .next) (r .child .0) in-places (omega (arith, T .roomy .1, G .few)))
                     ∙ sym E
-                    ∙ ap (λ (x : ℕ). ends L (fill L h) x out (slotsIn i ks vs (node .places) (node .lessers)) (p .at .0) (p .last) (from ks vs (p .next))) (sym z)
+                    ∙ ap (λ (x : ℕ). ends L (fill L h) x out (slotsIn i ks vs (node .places) (node .lessers)) (p .at .0) (p .last) (from ks vs (p .next)))
+                    (sym z)
                     ∙ T .same;
               }),
         )

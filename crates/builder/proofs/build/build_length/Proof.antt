@@ -1,6 +1,6 @@
 -- `builder::build::build_length` meets its contract. Assumes nothing.
-use mathlib.Core.Path.{_≡_, refl, sym, _∙_}
-use mathlib.Core.Bool.{true, false, not}
+use mathlib.Core.Path.{_≡_, sym, _∙_}
+use mathlib.Core.Bool.{true}
 use borrow.Author.Tests.{not-true, not-false}
 use Rattle.format.specs.Layout.{layoutOf}
 use Rattle.format.specs.Build.{entriesInRange}

@@ -19,25 +19,20 @@ serialize-requires : tie.Need-serialize-from-ordered-iter-requires
 serialize-requires c κs =
     let zeros : tie.After-put-zeros = search in
     let start : tie.Start = search in
-    let a = start .args in
     let ((N, same), (low, P, fits)) = start .pre in
-    let L = layoutOf (a .layout) in
-    let ks = now (a .keys) in
-    let vs = now (a .values) in (
-      given L ks vs (a .header) N same P,
-      (some-last L ks vs (a .header) N same P, ready L ks vs (a .header) N same P _ low (omega (arith, fits, zeros .put-zeros .kept .0))),
-    )
+    let L = layoutOf (start .args .layout) in
+    let ks = now (start .args .keys) in
+    let vs = now (start .args .values) in
+    (given L ks vs _ N same P, (some-last L ks vs _ N same P, ready L ks vs _ N same P _ low (omega (arith, fits, zeros .put-zeros .kept .0))))
 
 resolve-from-len-requires : tie.Need-resolve-from-len-requires
 resolve-from-len-requires c κs =
     let nodes : tie.After-serialize-from-ordered-iter = search in
     let zeros : tie.After-put-zeros = search in
     let start : tie.Start = search in
-    let a = start .args in
     let ((N, same), (low, P, fits)) = start .pre in
-    let W = nodes .serialize-from-ordered-iter in
-    let e = record-fits (layoutOf (a .layout)) (now (a .keys)) (now (a .values)) (a .header) N same P (W .ensures) in
-    omega (arith, e, fits, zeros .put-zeros .kept .0, W .kept .0)
+    let wrote = nodes .serialize-from-ordered-iter in
+    omega (arith, record-fits _ _ _ _ N same P (wrote .ensures), fits, zeros .put-zeros .kept .0, wrote .kept .0)
 
 returns : tie.Need-returns
 returns c =
@@ -45,10 +40,8 @@ returns c =
     let nodes : tie.After-serialize-from-ordered-iter = search in
     let zeros : tie.After-put-zeros = search in
     let start : tie.Start = search in
-    let a = start .args in
     let ((N, same), (low, P, fits)) = start .pre in
-    archive-by (layoutOf (a .layout)) (now (a .keys)) (now (a .values)) (a .header) N same P
-    (nodes .serialize-from-ordered-iter .ensures) _ _ (zeros .put-zeros .ensures) (root .resolve-from-len .ensures)
+    archive-by _ _ _ _ N same P (nodes .serialize-from-ordered-iter .ensures) _ _ (zeros .put-zeros .ensures) (root .resolve-from-len .ensures)
 
 pub put-archive-spec : {M : Type 1} → statement M
 put-archive-spec = tie.close (tie.spec put-zeros-requires serialize-requires resolve-from-len-requires (search needs) returns)

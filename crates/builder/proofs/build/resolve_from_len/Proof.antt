@@ -15,8 +15,9 @@ returns c =
     let bits : tie.After-offset-bits = search in
     let start : tie.Start = search in
     let a = start .args in
-    record-by (layoutOf (a .layout)) (now (a .out)) _ _ (a .at .0) (a .n) (bits .offset-bits .result) (size .pointer .result) (childAt (a .root .0)) (size .pointer .ensures .0) (bits .offset-bits .ensures)
-    (field .put-uint .ensures) (count .put-uint2 .ensures)
+    record-by (layoutOf (a .layout)) (now (a .out)) _ _ (a .at .0) (a .n) (bits .offset-bits .result) (size .pointer .result)
+    (childAt (a .root .0)) (size .pointer .ensures .0) (bits .offset-bits .ensures) (field .put-uint .ensures)
+    (count .put-uint2 .ensures)
 
 pub resolve-from-len-spec : {M : Type 1} → statement M
 resolve-from-len-spec = tie.close (tie.spec (search needs) (search needs) (search needs) (search needs) (search needs) (search needs) returns)

@@ -1,6 +1,5 @@
 -- `builder::size::nodes_of` meets its contract. Assumes nothing.
-use Prim.Native.Nat.{ℕ, zero, suc, _-_}
-use mathlib.Core.Path.{_≡_, refl, sym, ap, _∙_}
+use mathlib.Core.Path.{_∙_}
 use native.Mathlib.Omega.{arith}
 use Rattle.builder.proofs.Levels.{fits}
 use Rattle.builder.proofs.Reach.{before, nodes-leaf, nodes-over, over-few}

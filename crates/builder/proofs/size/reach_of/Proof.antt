@@ -1,12 +1,11 @@
 -- `builder::size::reach_of` meets its contract. Assumes nothing.
-use Prim.Native.Nat.{suc, _+_, _-_, _≤_}
+use Prim.Native.Nat.{suc, _-_}
 use mathlib.Core.Path.{_≡_}
 use native.Mathlib.Omega.{arith}
-use Rattle.format.specs.Layout.{layoutOf, headSize, innerSize}
+use Rattle.format.specs.Layout.{layoutOf}
 use Rattle.format.specs.Laws.Build.Longest.{nodes-small}
-use Rattle.builder.specs.Size.{nodesOf, reachOf}
 use Rattle.builder.proofs.Levels.{fits}
-use Rattle.builder.proofs.Reach.{before, two-before, inner-in, reach-none, reach-one, first-few, reach-more}
+use Rattle.builder.proofs.Reach.{FirstChild, before, two-before, inner-in, reach-none, reach-one, first-few, reach-more}
 use borrow.Author.Needs.{needs}
 use Rattle.builder.proofs.size.reach_of.Statement.{statement}
 use Rattle.builder.proofs.size.reach_of.Tie as tie
@@ -65,16 +64,11 @@ size-over-requires c κs =
     let (_, some, over, higher) = first-few _ _ N p K _ (above high) in
     (record { least = N .least; most = N .most; few = omega (arith, N .few) }, some, omega (arith, over, N .few), omega (arith, higher, N .few))
 
--- What the first child takes, and how far the root's first offset then leads.
 module _ (c : tie.After-size-over) where
   abbrev high : tie.Else2
   high = search
 
-  first : let s = start high in
-      (c .size-over .result ≤ nodesOf (layoutOf (s .args .layout)) (s .args .n) - innerSize (layoutOf (s .args .layout)))
-      × (innerSize (layoutOf (s .args .layout)) + (nodesOf (layoutOf (s .args .layout)) (s .args .n) - innerSize (layoutOf (s .args .layout)) - c .size-over .result)
-      + headSize (layoutOf (s .args .layout))
-      ≡ reachOf (layoutOf (s .args .layout)) (s .args .n))
+  first : FirstChild (layoutOf (start high .args .layout)) (start high .args .n) (c .size-over .result)
   first =
       let ((N, p, K), e) = start high .pre in
       reach-more _ _ N p K _ (above high) _ _ (fits _ _ N p K .last) (c .size-over .ensures)
@@ -89,9 +83,9 @@ add-result-3 : tie.Need-add-result-3
 add-result-3 c =
     let again : tie.After-inner2 = search in
     let taken : tie.After-size-over = search in
-    let size : tie.After-inner = search in
+    let a = start (high taken) .args in
     let ((N, p, K), e) = start (high taken) .pre in
-    omega (arith, nodes-small (layoutOf (start (high taken) .args .layout)) (N .least) (N .most) (start (high taken) .args .n) (N .few), e, again .inner2 .ensures .1)
+    omega (arith, nodes-small (layoutOf (a .layout)) (N .least) (N .most) (a .n) (N .few), e, again .inner2 .ensures .1)
 
 returns-3 : tie.Need-returns-3
 returns-3 c =

@@ -1,7 +1,7 @@
 -- `builder::size::size_over` meets its contract. Assumes nothing.
 use Prim.Native.Nat.{_+_, _-_, _*_, _≤_}
 use native.Mathlib.Omega.{arith}
-use Rattle.builder.proofs.Levels.{times}
+use native.Mathlib.Nat.{mul-le-mul}
 use Rattle.builder.proofs.Reach.{below-few, parts, size-by}
 use borrow.Author.Needs.{needs}
 use Rattle.builder.proofs.size.size_over.Statement.{statement}
@@ -15,7 +15,7 @@ mul-least c =
     let start : tie.Start = search in
     let e = start .args .layout .entries in
     let b = below-few e (start .pre .0 .least) (start .pre .0 .most) .1 in
-    omega (arith, times (e * (e + 1)) (start .args .p) 240 40000 b (start .pre .2))
+    omega (arith, mul-le-mul {n₁ = e * (e + 1)} {m₁ = start .args .p} {n₂ = 240} {m₂ = 40000} b (start .pre .2))
 
 needed-requires : tie.Need-needed-requires
 needed-requires c κs =
@@ -52,15 +52,13 @@ leaves-small : (c : tie.After-leaf) → let leaves : tie.After-needed2 = search 
     c .leaf .result * (leaves .needed2 .result + (start leaves .args .p - inners leaves .needed .result)) ≤ 20480000
 leaves-small c =
     let leaves : tie.After-needed2 = search in
-    let s = start leaves in
-    times _ _ 256 80000 (c .leaf .ensures .1) (omega (arith, few leaves, s .pre .0 .few, s .pre .2))
+    mul-le-mul {n₂ = 256} {m₂ = 80000} (c .leaf .ensures .1) (omega (arith, few leaves, start leaves .pre .0 .few, start leaves .pre .2))
 
 inners-small : (c : tie.After-inner) → let leaves : tie.After-needed2 = search in
     c .inner .result * (inners leaves .needed .result + start leaves .args .q) ≤ 30080000
 inners-small c =
     let leaves : tie.After-needed2 = search in
-    let s = start leaves in
-    times _ _ 376 80000 (c .inner .ensures .1) (omega (arith, few leaves, s .pre .2, s .pre .3))
+    mul-le-mul {n₂ = 376} {m₂ = 80000} (c .inner .ensures .1) (omega (arith, few leaves, start leaves .pre .2, start leaves .pre .3))
 
 mul-result : tie.Need-mul-result
 mul-result c = let leaf : tie.After-leaf = search in omega (arith, leaves-small leaf)

@@ -1,8 +1,6 @@
 -- `format::Layout::in_range` meets its contract. Assumes nothing.
 use mathlib.Core.Path.{refl}
-use mathlib.Core.Bool.{_&&_}
 use borrow.Author.Tests.{le-leb, lt-leb}
-use borrow.Author.Needs.{needs}
 use Rattle.format.proofs.Layout.in_range.Statement.{statement}
 use Rattle.format.proofs.Layout.in_range.Tie as tie
 

@@ -46,7 +46,7 @@ module _ (L : Layout) where
     pub last : r .last + min m c ≡ m
 
   -- n entries of an inner node and n + 1 such children.
-  pub record TookAll (n q c m : ℕ) (es : List KeyValue) (r : FilledBranches) : Type 0 where
+  record TookAll (n q c m : ℕ) (es : List KeyValue) (r : FilledBranches) : Type 0 where
     pub left : length (r .rest) + (suc n * q + n + min m (suc n * c)) ≡ length es
     pub last : r .last + min m (suc n * c) ≡ m
 
@@ -67,7 +67,7 @@ module _ (L : Layout) where
       branches-by zero m es l = one m es (omega arith)
       branches-by (suc n) m es l = next n m es (took m es (omega arith)) l (branches-by n (give m es .last)) (give m es .rest) refl
 
-    pub branches-took : (n m : ℕ) (es : List KeyValue) → suc n * q + n + min m (suc n * c) ≤ length es → TookAll n q c m es (fillBranches give n m es)
+    branches-took : (n m : ℕ) (es : List KeyValue) → suc n * q + n + min m (suc n * c) ≤ length es → TookAll n q c m es (fillBranches give n m es)
     branches-took = branches-by (λ n m es r. TookAll n q c m es r) one more
       where
         one : (m : ℕ) (es : List KeyValue) → q + min m c ≤ length es → TookAll 0 q c m es (fillBranches give 0 m es)

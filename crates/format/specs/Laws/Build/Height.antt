@@ -49,7 +49,7 @@ module _ (L : Layout) (some : 0 < L .entries) where
           rw (eb, logFrom) (level-up (logFrom L fuel (n / suc (L .entries))) n
           (rec (pos-div n (suc (L .entries)) (omega arith) (ltb-false _ _ eb)) (omega (arith, div-lt-self {n = n} {k = suc (L .entries)} h₀ (omega arith)))))
 
-  pub power : (h : ℕ) → suc (L .entries) ^ h ≡ suc (upper L h)
+  power : (h : ℕ) → suc (L .entries) ^ h ≡ suc (upper L h)
   power zero = pow-zero _
   power (suc h) = pow-succ' (suc (L .entries)) h ∙ rw (power h) (omega arith)
 

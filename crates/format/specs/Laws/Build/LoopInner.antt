@@ -38,7 +38,7 @@ left-pos ll c (suc m) h e = e
 abbrev pub Far : ℕ → ℕ → ℕ → Type 0
 Far ll c k = (i : ℕ) → i < k → suc (c + i) ≡ ll → ⊥
 
-pub replicate-cons : {A : Type 0} (l : ℕ) (x : A) (S : List A) → replicate l x ++ (x ∷ S) ≡ x ∷ (replicate l x ++ S)
+replicate-cons : {A : Type 0} (l : ℕ) (x : A) (S : List A) → replicate l x ++ (x ∷ S) ≡ x ∷ (replicate l x ++ S)
 replicate-cons zero x S = refl
 replicate-cons {A} (suc l) x S = ap (λ (r : List A). x ∷ r) (replicate-cons l x S)
 

@@ -97,39 +97,6 @@ module _ (L : Layout) (some : 0 < L .entries) where
       record′ : ℕ → List (List Slot) → State
       record′ p x = record { openLeaf = []; openInners = x; childPos = Absent; leafEntries = 0; iter = e ∷ es; pos = p; bytes = []; panics = false }
 
-  -- The loop leaves nothing to close: so do as many turns as there are entries.
-  pub run-agrees : (e : KeyValue) (es : List KeyValue) (p : ℕ)
-      → let n = length (e ∷ es) in
-      Agrees L (run L n (lastLevel L n)
-      (record {
-        openLeaf = [];
-        openInners = replicate (height L n - 1) [];
-        childPos = Absent;
-        leafEntries = 0;
-        iter = e ∷ es;
-        pos = p;
-        bytes = [];
-        panics = false;
-      }))
-      (treeOf L (e ∷ es)) p
-  run-agrees e es p =
-      let all = e ∷ es in
-      let F = fitting L some (length all) (omega arith) in
-      let h = F .above in
-      let m = lastLevel L (length all) in
-      let eh : h ≡ height L (length all) - 1 = omega (arith, F .height-is) in
-      let (c, l) = loop L some h m all p (F .last-pos) (F .last-room) (F .last-is) in
-      let none = none-left L all F in
-      let x : run L (length all) m (start₁ (replicate (height L (length all) - 1) [])) ≡ done L c (fill L h m all) p [] =
-      ap (λ (y : List (List Slot)). run L (length all) m (start₁ y)) (sym (append-nil (replicate h []) ∙ ap (λ (i : ℕ). replicate i []) eh))
-      ∙ run-all L m (ready L [] h 0 all p []) (done L c (fill L h m all) p []) (length all) l none (omega arith) in
-      subst (λ (b : Branch). Agrees L (run L (length all) m (start₁ (replicate (height L (length all) - 1) []))) b p) (sym (tree-is L e es h (F .height-is)))
-      (subst (λ (t : State). Agrees L t (fill L h m all .branch) p) (sym x)
-      (record { bytes = refl; pos = refl; root = refl; iter = none; leaf = refl; inners = refl; panics = refl }))
-    where
-      start₁ : List (List Slot) → State
-      start₁ x = record { openLeaf = []; openInners = x; childPos = Absent; leafEntries = 0; iter = e ∷ es; pos = p; bytes = []; panics = false }
-
   archive-as : (header : List ℕ) (n : ℕ) (b : Branch) (t : State) → There b → Agrees L t b (length header + zerosTo nodeAlign (length header))
       → header ++ (replicate (zerosTo nodeAlign (length header)) 0 ++ (t .bytes ++ recordBytes L (t .pos) (t .childPos) n))
       ≡ header ++ behind L (length header) b n

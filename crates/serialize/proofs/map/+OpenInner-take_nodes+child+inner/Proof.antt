@@ -1,7 +1,7 @@
 -- `serialize::map::OpenInner::take_nodes`, `child` and `inner`, which call each other, meet their contracts: the levels fall where `child` is called,
 -- and stay where the others are. Assumes nothing.
 use Prim.Native.Nat.{ℕ, _+_, _-_, _*_, _≤_, _<_, min}
-use mathlib.Core.Path.{_≡_, refl, sym, ap, _∙_}
+use mathlib.Core.Path.{refl, sym, ap, _∙_}
 use mathlib.Core.Logic.{⊎-elim}
 use native.Mathlib.Omega.{arith}
 use lib.ListN.{length}
@@ -85,16 +85,9 @@ nodes-child-requires : (t : ℕ) → In-nodes t nodes-lts.Need-child-requires
 nodes-child-requires t c κs =
     let turn : In-nodes t nodes-lts.At-loop = search in
     let start : In-nodes t nodes-lts.Start = search in
-    let a = start .args in (
-      omega (arith, start .pre .0, start .pre .1 .1 .0 .1),
-      (
-        start .pre .1 .0,
-        (
-          omega (arith, start .pre .1 .1 .0 .1),
-          ready-one (layoutOf (a .layout)) (now (a .keys)) (now (a .values)) (a .h - 1) (turn .loop .inv .ready),
-        ),
-      ),
-    )
+    let (G, ((_, high), _)) = start .pre .1 in
+    let one = ready-one _ _ _ (start .args .h - 1) (turn .loop .inv .ready) in
+    (omega (arith, start .pre .0, high), (G, (omega (arith, high), one)))
 
 nodes-returns : (t : ℕ) → In-nodes t nodes-lts.Need-returns
 nodes-returns t c =
@@ -145,29 +138,15 @@ child-returns t c =
 child-inner-requires : (t : ℕ) → In-child t child-lts.Need-inner-requires
 child-inner-requires t c κs =
     let met : In-child t child-lts.Joined1 = search in
-    let start : In-child t child-lts.Start = search in (
-      omega (arith, start .pre .0),
-      (
-        start .pre .1 .0,
-        ((start .pre .1 .1 .0, λ one. ⊎-elim (λ w. not-none _ (w .2 .left)) (λ w. absurd (w .left one)) (met .if1 .came)), start .pre .1 .1 .1),
-      ),
-    )
+    let start : In-child t child-lts.Start = search in
+    let (G, (some, ready)) = start .pre .1 in
+    (omega (arith, start .pre .0), (G, ((some, λ one. ⊎-elim (λ w. not-none _ (w .2 .left)) (λ w. absurd (w .left one)) (met .if1 .came)), ready)))
 
 -- ---- inner
 
 abbrev inner-calls : ℕ → inner-lts.Claims
-inner-calls t = (
-  new.Asked,
-  new.Learnt,
-  take-leaves.Asked,
-  take-leaves.Learnt,
-  nodes-below t,
-  take-nodes.Post,
-  close-inner.Asked,
-  close-inner.Learnt,
-  size.Asked,
-  size.Learnt,
-)
+inner-calls t =
+    (new.Asked, new.Learnt, take-leaves.Asked, take-leaves.Learnt, nodes-below t, take-nodes.Post, close-inner.Asked, close-inner.Learnt, size.Asked, size.Learnt)
 
 -- A place or a need of `inner`.
 abbrev In-inner : ℕ → (inner-lts.Claims → In 3 inner-kinds.ps → Out 3 inner-kinds.ps inner-kinds.r → Type 0) → Type 0

@@ -1,5 +1,4 @@
 -- `serialize::map::OpenInner::take_leaves` meets its contract. Assumes nothing.
-use native.Mathlib.Omega.{arith}
 use Prim.Native.Nat.{_-_}
 use denote.Ref.{now}
 use Rattle.format.specs.Layout.{layoutOf}
