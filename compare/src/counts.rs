@@ -8,7 +8,7 @@ pub const LEAST: u64 = 100;
 
 /// Answers that are counted: accepted ones at 0, else by refusal.
 #[derive(Default)]
-pub struct Counts([u64; 19]);
+pub struct Counts([u64; 25]);
 
 impl Counts {
     pub fn add<T>(&mut self, answer: Result<T, u8>) {

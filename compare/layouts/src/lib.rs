@@ -1,5 +1,6 @@
-//! The proved readers at any layout, beside a second reading of the bytes and beside rkyv.
+//! The proved readers and the proved builder at any layout, beside a second reading of the bytes and beside rkyv.
 
+pub mod builds;
 pub mod ours;
 pub mod readers;
 
@@ -11,6 +12,15 @@ pub const LAYOUTS: [Layout; 4] = [layout(2, 5), layout(8, 5), layout(4, 3), layo
 
 const fn layout(width: usize, entries: usize) -> Layout {
     Layout { width, entries }
+}
+
+/// One of the names of a width, as a rule its own bytes.
+fn name(width: usize, random: &mut Random) -> u8 {
+    let own = width as u8;
+    match own {
+        4 => random.pick(&[own, own, own, own, 0, 3, 16, 255]),
+        _ => own,
+    }
 }
 
 /// Any layout that the proved readers take, from a seed.

@@ -9,6 +9,7 @@ use compare::readers::{compare_with_rkyv, pairs, same, Bounds};
 use compare::rkyv_map::{Archive, WIDTH};
 use compare::trees::{self, Random};
 
+use crate::name;
 use crate::ours::Named;
 
 /// Keys and ranges asked of each archive.
@@ -80,11 +81,7 @@ fn with_rkyv(
 
 /// One of the names of a layout, as a rule its own numbers.
 fn named(layout: Layout, random: &mut Random) -> Named {
-    let own = layout.width as u8;
-    let width = match own {
-        4 => random.pick(&[own, own, own, own, 0, 3, 16, 255]),
-        _ => own,
-    };
+    let width = name(layout.width, random);
     let entries = match layout.entries {
         15 => random.pick(&[15, 15, 15, 16, 255, usize::MAX]),
         entries => entries,

@@ -1,6 +1,6 @@
-//! Times the proved readers beside rkyv's at the layouts whose pointers rkyv is built for: one process, one run, warm
-//! buffers, the best of many repetitions, as the program `bench` does it for the common layout. The archives are built
-//! by rkyv, and both sides give the same answer.
+//! Times the proved readers and the proved builder beside rkyv's at the layouts whose pointers rkyv is built for: one
+//! process, one run, warm buffers, the best of many repetitions, as the program `bench` does it for the common layout.
+//! The archives are built by rkyv, and both sides give the same answer.
 //!
 //! - `check`: each runs its check.
 //! - `certify`: the proved call checks, looks for hollow nodes and compares each key with the one before; rkyv's check,
@@ -11,6 +11,8 @@
 //!   under `certify`, and writes what its range iterator gives.
 //! - `the same, rkyv not certifying`: the proved range again, beside rkyv's check and range without a look at the order
 //!   of the keys.
+//! - `build`: each writes the archive to memory that it has already, behind no header. The proved build makes sure that
+//!   the keys ascend, which rkyv leaves to the caller; rkyv also uses working memory, kept from call to call.
 
 use std::hint::black_box;
 use std::ops::Bound;

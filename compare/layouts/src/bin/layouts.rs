@@ -1,11 +1,16 @@
 //! Compares answers on generated archives of other layouts: the proved code's with the second reading's, and the second
-//! reading's with rkyv's at the layouts whose pointers rkyv is built for.
+//! reading's with rkyv's at the layouts whose pointers rkyv is built for. At these it compares what is built, too.
 //!
 //! `layouts [NUMBER [FIRST]]` takes archives at the edges of each layout, and as many seeds from the first on. Built
 //! for 32-bit pointers it takes four layouts, and as many seeds again with the layout picked for each from all; else
 //! the one of rkyv's pointers. Of each it prints how many archives there were of each kind and what was compared. If
 //! answers differ, it prints the smallest archive on which they do, in hex, and ends with 1. A run of 100,000 archives
 //! a layout or more also ends with 1 if one of the refusals 1 to 9 comes up less than 100 times at one of them.
+//!
+//! What the proved code builds is compared with rkyv's bytes at rkyv's pointers and 3, 5 and 15 entries a node, as
+//! `builds` describes it; random numbers and headers are those of the first seed. Of each layout it prints how many
+//! archives and refusals there were. If some differ, it describes the first and ends with 1; it also ends with 1 if one
+//! of the refusals 10 to 14 and 24 comes up less than 100 times.
 
 use std::env;
 use std::ops::Range;
@@ -13,10 +18,10 @@ use std::process::ExitCode;
 
 use compare::counts::{Counts, LEAST};
 use compare::model::{Layout, COMMON};
-use compare::rkyv_map::{self, Archive, WIDTH};
+use compare::rkyv_map::{Archive, WIDTH};
 use compare::trees::{self, Random};
 use layouts::readers::{self, Compared};
-use layouts::LAYOUTS;
+use layouts::{builds, LAYOUTS};
 
 /// A run of this many archives must have each refusal often enough.
 const ENOUGH: u64 = 100_000;
@@ -50,6 +55,9 @@ fn main() -> ExitCode {
     if all {
         println!("\nany layout: offsets of 2, 4 or 8 bytes, 3 to 15 entries a node");
         good &= Run::default().seeds(layouts::any, seeds);
+    }
+    for layout in builds::LAYOUTS {
+        good &= builds::compare(layout, first);
     }
     match good {
         true => ExitCode::SUCCESS,
@@ -130,18 +138,12 @@ impl Run {
     }
 }
 
-/// A build of keys and values behind a header.
-type Build = fn(&[u8], &[u64], &[u64]) -> Vec<u8>;
-
 /// Prints the layout, and holds the archives that are generated as built ones to what rkyv builds, byte for byte.
 fn same_bytes(layout: Layout) -> bool {
     let Layout { width, entries } = layout;
     println!("\noffsets of {width} bytes, {entries} entries a node");
-    let build: Build = match (width == WIDTH, entries) {
-        (true, 3) => rkyv_map::build_of::<3>,
-        (true, 5) => rkyv_map::build_of::<5>,
-        (true, 15) => rkyv_map::build_of::<15>,
-        _ => return true,
+    let Some(build) = builds::by_rkyv(layout) else {
+        return true;
     };
     let mut differing = 0;
     for count in 0..=BUILT {
