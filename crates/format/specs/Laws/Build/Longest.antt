@@ -125,7 +125,7 @@ module _ (L : Layout) (least : 3 ≤ L .entries) (most : L .entries ≤ 15) wher
       needed : (t k : ℕ) → up t k * k ≤ t + k
       needed t k = omega (arith, div-add-mod' (t + (k - 1)) k)
 
-  -- The nodes; 937,504 bytes are the most that any of these layouts has.
+  -- The nodes.
   pub nodes-small : (n : ℕ) → n ≤ 40000 → weight L (height L n - 1) (lastLevel L n) ≤ 1040000
   unfolding height logFrom
   nodes-small zero l = omega (arith, weight-le L 0 (lastLevel L 0), leaf-most)
