@@ -1,5 +1,5 @@
-// The readers and the builder at every layout, exported for the comparison and the measurement only: what programs may call is in `exports`. An answer is the number
-// that the call gives, or 2^64 - 1 less the refusal's number.
+// The readers and the builder at every layout, exported for the comparison and the measurement only: what programs may call is in `exports`. An answer
+// is the number that the call gives, or 2^64 - 1 less the refusal's number.
 use builder::build::BuildAnswer;
 use fields::least::least;
 use format::Bound;

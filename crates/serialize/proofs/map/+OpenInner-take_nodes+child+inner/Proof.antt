@@ -24,7 +24,7 @@ use Rattle.serialize.proofs.map.inner.Reads as inner
 use Rattle.serialize.proofs.map.inner.Kinds as inner-kinds
 use Rattle.serialize.proofs.map.+OpenInner-take_nodes+child+inner.Lts-inner as inner-lts
 use Rattle.format.proofs.Layout.inner.Reads as size
-use Rattle.nodes.proofs.node.close_inner.Reads as close-inner
+use Rattle.nodes.proofs.node.close_inner.Reads as closing
 use Rattle.serialize.proofs.map.OpenInner.new.Reads as new
 use Rattle.serialize.proofs.map.OpenInner.take_leaves.Reads as take-leaves
 use Rattle.serialize.proofs.map.leaf.Reads as leaf
@@ -146,7 +146,7 @@ child-inner-requires t c κs =
 
 abbrev inner-calls : ℕ → inner-lts.Claims
 inner-calls t =
-    (new.Asked, new.Learnt, take-leaves.Asked, take-leaves.Learnt, nodes-below t, take-nodes.Post, close-inner.Asked, close-inner.Learnt, size.Asked, size.Learnt)
+    (new.Asked, new.Learnt, take-leaves.Asked, take-leaves.Learnt, nodes-below t, take-nodes.Post, closing.Asked, closing.Learnt, size.Asked, size.Learnt)
 
 -- A place or a need of `inner`.
 abbrev In-inner : ℕ → (inner-lts.Claims → In 3 inner-kinds.ps → Out 3 inner-kinds.ps inner-kinds.r → Type 0) → Type 0
