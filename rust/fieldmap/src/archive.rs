@@ -1,6 +1,6 @@
 //! Bytes that have passed the check, as a type.
 
-use crate::{Certified, Entry, Refusal, Walked};
+use crate::{Certified, Entry, Refusal, Walked, Width};
 
 /// Why a reader does not refuse bytes that passed before.
 pub(crate) const PASSED: &str = "the same bytes passed before";
@@ -24,6 +24,7 @@ pub(crate) const PASSED: &str = "the same bytes passed before";
 #[must_use]
 #[derive(Clone, Copy, Debug, PartialEq, Eq, Hash)]
 pub struct Archive<'a> {
+    width: Width,
     bytes: &'a [u8],
     count: usize,
 }
@@ -43,13 +44,50 @@ impl<'a> Archive<'a> {
     /// # Ok::<(), Refusal>(())
     /// ```
     pub fn check(bytes: &'a [u8]) -> Result<Self, Refusal> {
-        let count = crate::check(bytes)?;
-        Ok(Self { bytes, count })
+        Self::check_at(Width::default(), bytes)
     }
 
-    /// The archive whose recorded count certification has just given.
-    pub(crate) fn passed(bytes: &'a [u8], count: usize) -> Self {
-        Self { bytes, count }
+    /// The archive of a width, if [`check_at`](crate::check_at()) accepts it. Its readers read by that width.
+    ///
+    /// # Errors
+    ///
+    /// The first fault of 1 to 7.
+    ///
+    /// ```
+    /// use fieldmap::{Archive, Width};
+    ///
+    /// let mut bytes = [0; 100];
+    /// fieldmap::build_at(Width::Bits16, &mut bytes, 0, &[1, 5, 9], &[10, 50, 90])?;
+    /// let archive = Archive::check_at(Width::Bits16, &bytes)?;
+    /// assert_eq!(archive.get(9).map(|entry| entry.value), Some(90));
+    /// # Ok::<(), fieldmap::Refusal>(())
+    /// ```
+    pub fn check_at(width: Width, bytes: &'a [u8]) -> Result<Self, Refusal> {
+        let count = crate::check_at(width, bytes)?;
+        Ok(Self::passed(width, bytes, count))
+    }
+
+    /// The archive whose recorded count the check or certification has just given.
+    pub(crate) fn passed(width: Width, bytes: &'a [u8], count: usize) -> Self {
+        Self {
+            width,
+            bytes,
+            count,
+        }
+    }
+
+    /// The width that it was checked by, and is read by.
+    ///
+    /// ```
+    /// use fieldmap::{Archive, Width};
+    ///
+    /// assert_eq!(Archive::check(&[1, 0, 0, 0, 0, 0, 0, 0])?.width(), Width::Bits32);
+    /// assert_eq!(Archive::check_at(Width::Bits16, &[1, 0, 0, 0])?.width(), Width::Bits16);
+    /// # Ok::<(), fieldmap::Refusal>(())
+    /// ```
+    #[must_use]
+    pub fn width(self) -> Width {
+        self.width
     }
 
     /// The archive's bytes.
@@ -119,7 +157,7 @@ impl<'a> Archive<'a> {
     /// ```
     #[must_use]
     pub fn get(self, key: u64) -> Option<Entry> {
-        crate::lookup(self.bytes, key).expect(PASSED)
+        crate::lookup_at(self.width, self.bytes, key).expect(PASSED)
     }
 
     /// The eight bytes of the value that [`get`](Self::get) finds, as a part of the archive, or the empty part. It misses what `get` misses.
@@ -134,7 +172,7 @@ impl<'a> Archive<'a> {
     /// ```
     #[must_use]
     pub fn get_bytes(self, key: u64) -> &'a [u8] {
-        crate::lookup_bytes(self.bytes, key)
+        crate::lookup_bytes_at(self.width, self.bytes, key)
     }
 
     /// Looks up keys after one check, as [`lookup_many`](crate::lookup_many()) does, and gives the number found. It misses what
@@ -153,7 +191,7 @@ impl<'a> Archive<'a> {
     /// # Ok::<(), fieldmap::Refusal>(())
     /// ```
     pub fn get_many(self, keys: &[u64], values: &mut [u64]) -> usize {
-        crate::lookup_many(self.bytes, keys, values).expect(PASSED)
+        crate::lookup_many_at(self.width, self.bytes, keys, values).expect(PASSED)
     }
 
     /// Whether [`get`](Self::get) finds an entry. It misses what `get` misses.
@@ -188,10 +226,11 @@ impl<'a> Archive<'a> {
     /// # Ok::<(), fieldmap::Refusal>(())
     /// ```
     pub fn walk(self, keys: &mut [u64], values: &mut [u64]) -> Walked {
-        crate::walk(self.bytes, keys, values).expect(PASSED)
+        crate::walk_at(self.width, self.bytes, keys, values).expect(PASSED)
     }
 
-    /// The same archive, if [`certify`](crate::certify()) accepts it. That checks again; [`Certified::certify`] takes bytes and checks once.
+    /// The same archive, if [`certify_at`](crate::certify_at()) accepts it by its width. That checks again; [`Certified::certify_at`] takes bytes
+    /// and checks once.
     ///
     /// # Errors
     ///
@@ -204,35 +243,6 @@ impl<'a> Archive<'a> {
     /// # Ok::<(), fieldmap::Refusal>(())
     /// ```
     pub fn certify(self) -> Result<Certified<'a>, Refusal> {
-        Certified::certify(self.bytes)
-    }
-}
-
-impl<'a> TryFrom<&'a [u8]> for Archive<'a> {
-    type Error = Refusal;
-
-    /// As [`Archive::check`].
-    ///
-    /// ```
-    /// let bytes: &[u8] = &[1, 0, 0, 0, 0, 0, 0, 0];
-    /// let archive: fieldmap::Archive = bytes.try_into()?;
-    /// assert!(archive.is_empty());
-    /// # Ok::<(), fieldmap::Refusal>(())
-    /// ```
-    fn try_from(bytes: &'a [u8]) -> Result<Self, Refusal> {
-        Self::check(bytes)
-    }
-}
-
-impl<'a> From<Certified<'a>> for Archive<'a> {
-    /// As [`Certified::archive`].
-    fn from(certified: Certified<'a>) -> Self {
-        certified.archive()
-    }
-}
-
-impl AsRef<[u8]> for Archive<'_> {
-    fn as_ref(&self) -> &[u8] {
-        self.bytes
+        Certified::certify_at(self.width, self.bytes)
     }
 }

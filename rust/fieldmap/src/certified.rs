@@ -3,7 +3,7 @@
 use core::ops::RangeBounds;
 
 use crate::archive::PASSED;
-use crate::{Archive, Entry, Matched, Packing, Refusal, Walked};
+use crate::{Archive, Entry, Matched, Packing, Refusal, Walked, Width};
 
 /// A certified archive: its keys strictly ascend and no node is hollow.
 ///
@@ -43,8 +43,41 @@ impl<'a> Certified<'a> {
     /// # Ok::<(), Refusal>(())
     /// ```
     pub fn certify(bytes: &'a [u8]) -> Result<Self, Refusal> {
-        let archive = Archive::passed(bytes, crate::certify(bytes)?);
+        Self::certify_at(Width::default(), bytes)
+    }
+
+    /// The archive of a width, if [`certify_at`](crate::certify_at()) accepts it. Its readers read by that width.
+    ///
+    /// # Errors
+    ///
+    /// The first fault of 1 to 9.
+    ///
+    /// ```
+    /// use fieldmap::{Certified, Width};
+    ///
+    /// let mut bytes = [0; 112];
+    /// fieldmap::build_at(Width::Bits64, &mut bytes, 0, &[1, 5, 9], &[10, 50, 90])?;
+    /// let certified = Certified::certify_at(Width::Bits64, &bytes)?;
+    /// assert_eq!(certified.get(5).map(|entry| entry.value), Some(50));
+    /// # Ok::<(), fieldmap::Refusal>(())
+    /// ```
+    pub fn certify_at(width: Width, bytes: &'a [u8]) -> Result<Self, Refusal> {
+        let count = crate::certify_at(width, bytes)?;
+        let archive = Archive::passed(width, bytes, count);
         Ok(Self { archive })
+    }
+
+    /// The width that it was certified by, and is read by.
+    ///
+    /// ```
+    /// use fieldmap::{Certified, Width};
+    ///
+    /// assert_eq!(Certified::certify_at(Width::Bits16, &[1, 0, 0, 0])?.width(), Width::Bits16);
+    /// # Ok::<(), fieldmap::Refusal>(())
+    /// ```
+    #[must_use]
+    pub fn width(self) -> Width {
+        self.archive.width()
     }
 
     /// The same archive as an accepted one.
@@ -215,7 +248,7 @@ impl<'a> Certified<'a> {
         keys: &mut [u64],
         values: &mut [u64],
     ) -> Matched {
-        crate::range(self.bytes(), bounds, keys, values).expect(PASSED)
+        crate::range_at(self.width(), self.bytes(), bounds, keys, values).expect(PASSED)
     }
 
     /// The points of one eye of one examination with x in a range of degrees, the keys being of the named packing. [`column`](crate::column())
@@ -246,37 +279,7 @@ impl<'a> Certified<'a> {
         keys: &mut [u64],
         values: &mut [u64],
     ) -> Result<Matched, Refusal> {
-        crate::column(self.bytes(), packing, examination, eye, x, keys, values)
-    }
-}
-
-impl<'a> TryFrom<&'a [u8]> for Certified<'a> {
-    type Error = Refusal;
-
-    /// As [`Certified::certify`].
-    ///
-    /// ```
-    /// let bytes: &[u8] = &[1, 0, 0, 0, 0, 0, 0, 0];
-    /// let certified: fieldmap::Certified = bytes.try_into()?;
-    /// assert!(certified.is_empty());
-    /// # Ok::<(), fieldmap::Refusal>(())
-    /// ```
-    fn try_from(bytes: &'a [u8]) -> Result<Self, Refusal> {
-        Self::certify(bytes)
-    }
-}
-
-impl<'a> TryFrom<Archive<'a>> for Certified<'a> {
-    type Error = Refusal;
-
-    /// As [`Archive::certify`].
-    fn try_from(archive: Archive<'a>) -> Result<Self, Refusal> {
-        archive.certify()
-    }
-}
-
-impl AsRef<[u8]> for Certified<'_> {
-    fn as_ref(&self) -> &[u8] {
-        self.archive.bytes()
+        let (width, bytes) = (self.width(), self.bytes());
+        crate::column_at(width, bytes, packing, examination, eye, x, keys, values)
     }
 }

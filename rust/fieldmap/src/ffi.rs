@@ -3,12 +3,19 @@
 //! A slice passes as a pointer and a length, a lent number as a pointer. Each call answers a number from 0 on, or minus a refusal's number.
 //! Nothing checks these declarations against the library's source; `include/fieldmap.h` says the same in C.
 
-extern "C" {
-    fn fieldmap_check(archive: *const u8, archive_len: usize) -> i64;
+mod archives;
 
-    fn fieldmap_certify(archive: *const u8, archive_len: usize) -> i64;
+pub use archives::{
+    build, build_length, certify, check, column, lookup, lookup_bytes, lookup_many, range, walk,
+};
+
+extern "C" {
+    fn fieldmap_check(width: u8, archive: *const u8, archive_len: usize) -> i64;
+
+    fn fieldmap_certify(width: u8, archive: *const u8, archive_len: usize) -> i64;
 
     fn fieldmap_lookup(
+        width: u8,
         archive: *const u8,
         archive_len: usize,
         key: u64,
@@ -17,6 +24,7 @@ extern "C" {
     ) -> i64;
 
     fn fieldmap_lookup_bytes(
+        width: u8,
         archive: *const u8,
         archive_len: usize,
         key: u64,
@@ -24,6 +32,7 @@ extern "C" {
     ) -> i64;
 
     fn fieldmap_lookup_many(
+        width: u8,
         archive: *const u8,
         archive_len: usize,
         keys: *const u64,
@@ -33,6 +42,7 @@ extern "C" {
     ) -> i64;
 
     fn fieldmap_walk(
+        width: u8,
         archive: *const u8,
         archive_len: usize,
         keys: *mut u64,
@@ -43,6 +53,7 @@ extern "C" {
     ) -> i64;
 
     fn fieldmap_range(
+        width: u8,
         archive: *const u8,
         archive_len: usize,
         lower_kind: u8,
@@ -57,6 +68,7 @@ extern "C" {
     ) -> i64;
 
     fn fieldmap_column(
+        width: u8,
         archive: *const u8,
         archive_len: usize,
         packing: u8,
@@ -72,6 +84,7 @@ extern "C" {
     ) -> i64;
 
     fn fieldmap_build(
+        width: u8,
         out: *mut u8,
         out_len: usize,
         header: usize,
@@ -81,7 +94,7 @@ extern "C" {
         values_len: usize,
     ) -> i64;
 
-    fn fieldmap_build_length(entries: usize, header: usize) -> i64;
+    fn fieldmap_build_length(width: u8, entries: usize, header: usize) -> i64;
 
     fn fieldmap_signed_offset(from: u64, to: u64, offset: *mut i64) -> i64;
 
@@ -116,134 +129,9 @@ extern "C" {
     fn fieldmap_threshold(value: u64) -> i64;
 }
 
-// SAFETY, of every call below: a pointer and a length are those of a slice, a lone pointer is a reference's, and each is live and aligned
+// SAFETY, of every call below and in `archives`: a pointer and a length are those of a slice, a lone pointer is a reference's, and each is live and aligned
 // for the call; what is written is borrowed mutably, so no other pointer leads there. The library reads and writes nothing else, whatever
 // the bytes and the lengths are, and keeps no pointer.
-
-pub fn check(archive: &[u8]) -> i64 {
-    // SAFETY: as above.
-    unsafe { fieldmap_check(archive.as_ptr(), archive.len()) }
-}
-
-pub fn certify(archive: &[u8]) -> i64 {
-    // SAFETY: as above.
-    unsafe { fieldmap_certify(archive.as_ptr(), archive.len()) }
-}
-
-pub fn lookup(archive: &[u8], key: u64, value: &mut u64, position: &mut u64) -> i64 {
-    // SAFETY: as above.
-    unsafe { fieldmap_lookup(archive.as_ptr(), archive.len(), key, value, position) }
-}
-
-pub fn lookup_bytes(archive: &[u8], key: u64, start: &mut u64) -> i64 {
-    // SAFETY: as above.
-    unsafe { fieldmap_lookup_bytes(archive.as_ptr(), archive.len(), key, start) }
-}
-
-pub fn lookup_many(archive: &[u8], keys: &[u64], values: &mut [u64]) -> i64 {
-    // SAFETY: as above.
-    unsafe {
-        fieldmap_lookup_many(
-            archive.as_ptr(),
-            archive.len(),
-            keys.as_ptr(),
-            keys.len(),
-            values.as_mut_ptr(),
-            values.len(),
-        )
-    }
-}
-
-pub fn walk(archive: &[u8], keys: &mut [u64], values: &mut [u64], count: &mut u64) -> i64 {
-    // SAFETY: as above.
-    unsafe {
-        fieldmap_walk(
-            archive.as_ptr(),
-            archive.len(),
-            keys.as_mut_ptr(),
-            keys.len(),
-            values.as_mut_ptr(),
-            values.len(),
-            count,
-        )
-    }
-}
-
-/// A bound passes as its kind and its key.
-pub fn range(
-    archive: &[u8],
-    (lower_kind, lower): (u8, u64),
-    (upper_kind, upper): (u8, u64),
-    keys: &mut [u64],
-    values: &mut [u64],
-    matching: &mut u64,
-) -> i64 {
-    // SAFETY: as above.
-    unsafe {
-        fieldmap_range(
-            archive.as_ptr(),
-            archive.len(),
-            lower_kind,
-            lower,
-            upper_kind,
-            upper,
-            keys.as_mut_ptr(),
-            keys.len(),
-            values.as_mut_ptr(),
-            values.len(),
-            matching,
-        )
-    }
-}
-
-/// The examination and its eye pass as a pair, and so do the two ends of x.
-pub fn column(
-    archive: &[u8],
-    packing: u8,
-    (examination, eye): (u32, u8),
-    (a, b): (i8, i8),
-    keys: &mut [u64],
-    values: &mut [u64],
-    matching: &mut u64,
-) -> i64 {
-    // SAFETY: as above.
-    unsafe {
-        fieldmap_column(
-            archive.as_ptr(),
-            archive.len(),
-            packing,
-            examination,
-            eye,
-            a,
-            b,
-            keys.as_mut_ptr(),
-            keys.len(),
-            values.as_mut_ptr(),
-            values.len(),
-            matching,
-        )
-    }
-}
-
-pub fn build(out: &mut [u8], header: usize, keys: &[u64], values: &[u64]) -> i64 {
-    // SAFETY: as above.
-    unsafe {
-        fieldmap_build(
-            out.as_mut_ptr(),
-            out.len(),
-            header,
-            keys.as_ptr(),
-            keys.len(),
-            values.as_ptr(),
-            values.len(),
-        )
-    }
-}
-
-pub fn build_length(entries: usize, header: usize) -> i64 {
-    // SAFETY: no pointer passes.
-    unsafe { fieldmap_build_length(entries, header) }
-}
 
 pub fn signed_offset(from: u64, to: u64, offset: &mut i64) -> i64 {
     // SAFETY: as above.

@@ -30,6 +30,22 @@
 //! says which, so each call that reads or writes fields takes a [`Packing`]. On new keys a [column query](column()) gives exactly the points
 //! with x from a to b. The others take keys as numbers, and for the same numbers the same bytes are built, whatever they stand for.
 //!
+//! # Three widths
+//!
+//! Offsets and counts of an archive have 32 bits where rkyv is built at its defaults, else 16 or 64. Nothing stored says which, so the caller
+//! names it: each call is for archives of 32 bits, and the one with `_at` behind its name takes a [`Width`] first. [`Archive`] and
+//! [`Certified`] keep the width that they were opened by. [`Width`] says what becomes of an archive that is read by another one.
+//!
+//! ```
+//! use fieldmap::{Certified, Width};
+//!
+//! let mut out = vec![0; fieldmap::build_length_at(Width::Bits64, 3, 0)?];
+//! fieldmap::build_at(Width::Bits64, &mut out, 0, &[1, 5, 9], &[10, 50, 90])?;
+//! let archive = Certified::certify_at(Width::Bits64, &out)?;
+//! assert_eq!(archive.get(5).map(|entry| entry.value), Some(50));
+//! # Ok::<(), fieldmap::Refusal>(())
+//! ```
+//!
 //! # The check on every call
 //!
 //! Every reader runs the check first, [`range`] and [`column`](column()) certification, on every call. [`Archive`] and [`Certified`] say in a type that
@@ -41,8 +57,8 @@
 //!
 //! # Features
 //!
-//! - `alloc`: calls that give vectors and maps, `entries`, `to_map`, `entries_in` and `archive_of`. Off unless asked for; without it the crate
-//!   uses nothing but `core`.
+//! - `alloc`: calls that give vectors and maps, `entries`, `to_map`, `entries_in`, `archive_of` and `archive_of_at`. Off unless asked for;
+//!   without it the crate uses nothing but `core`.
 #![no_std]
 #![deny(missing_docs, unsafe_code)]
 
@@ -52,6 +68,7 @@ extern crate alloc;
 mod archive;
 mod builder;
 mod certified;
+mod conversions;
 #[allow(unsafe_code)]
 mod ffi;
 mod key;
@@ -63,19 +80,24 @@ mod ranges;
 mod readers;
 mod refusal;
 mod value;
+mod width;
 
 pub use archive::Archive;
-pub use builder::{build, build_length};
+pub use builder::{build, build_at, build_length, build_length_at};
 pub use certified::Certified;
 pub use key::Key;
 #[cfg(feature = "alloc")]
-pub use owned::archive_of;
+pub use owned::{archive_of, archive_of_at};
 pub use packing::Packing;
 pub use parts::{absent_offset, align, offset32, signed_offset, Aligned};
-pub use ranges::{column, range, Matched};
-pub use readers::{certify, check, lookup, lookup_bytes, lookup_many, walk, Entry, Walked};
+pub use ranges::{column, column_at, range, range_at, Matched};
+pub use readers::{
+    certify, certify_at, check, check_at, lookup, lookup_at, lookup_bytes, lookup_bytes_at,
+    lookup_many, lookup_many_at, walk, walk_at, Entry, Walked,
+};
 pub use refusal::{NoSuchRefusal, Refusal};
 pub use value::Value;
+pub use width::Width;
 
 /// The longest archive in bytes.
 pub const LONGEST_ARCHIVE: usize = 1_048_576;

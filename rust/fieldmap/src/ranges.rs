@@ -5,7 +5,7 @@ use core::ops::{Bound, RangeBounds};
 
 use crate::ffi;
 use crate::refusal::{answer, Refusal};
-use crate::Packing;
+use crate::{Packing, Width};
 
 /// What a range answers.
 #[must_use]
@@ -40,10 +40,35 @@ pub fn range(
     keys: &mut [u64],
     values: &mut [u64],
 ) -> Result<Matched, Refusal> {
+    range_at(Width::default(), archive, bounds, keys, values)
+}
+
+/// As [`range`], of an archive of a width.
+///
+/// # Errors
+///
+/// The first fault of 1 to 9.
+///
+/// ```
+/// use fieldmap::{range_at, Width};
+///
+/// let (mut archive, mut keys, mut values) = ([0; 100], [0; 2], [0; 2]);
+/// fieldmap::build_at(Width::Bits16, &mut archive, 0, &[1, 5, 9], &[10, 50, 90])?;
+/// let matched = range_at(Width::Bits16, &archive, 2..=9, &mut keys, &mut values)?;
+/// assert_eq!((matched.matching, keys), (2, [5, 9]));
+/// # Ok::<(), fieldmap::Refusal>(())
+/// ```
+pub fn range_at(
+    width: Width,
+    archive: &[u8],
+    bounds: impl RangeBounds<u64>,
+    keys: &mut [u64],
+    values: &mut [u64],
+) -> Result<Matched, Refusal> {
     let lower = passed(bounds.start_bound());
     let upper = passed(bounds.end_bound());
     let mut matching = 0;
-    let code = ffi::range(archive, lower, upper, keys, values, &mut matching);
+    let code = ffi::range(width, archive, lower, upper, keys, values, &mut matching);
     matched(code, matching)
 }
 
@@ -101,12 +126,43 @@ pub fn column(
     keys: &mut [u64],
     values: &mut [u64],
 ) -> Result<Matched, Refusal> {
+    let width = Width::default();
+    column_at(width, archive, packing, examination, eye, x, keys, values)
+}
+
+/// As [`column`], of an archive of a width.
+///
+/// # Errors
+///
+/// The first fault of 1 to 9, then 18, where the examination or the eye does not fit its field.
+///
+/// ```
+/// use fieldmap::{column_at, Key, Packing::Plus128, Width::Bits64};
+///
+/// let key = Key { examination: 1, eye: Key::LEFT, x: -15, y: 3, presentation: 0 };
+/// let (mut archive, mut keys, mut values) = ([0; 112], [0; 1], [0; 1]);
+/// fieldmap::build_at(Bits64, &mut archive, 0, &[key.pack(Plus128)?], &[9])?;
+/// let matched = column_at(Bits64, &archive, Plus128, 1, Key::LEFT, -20..=20, &mut keys, &mut values)?;
+/// assert_eq!((matched.matching, values), (1, [9]));
+/// # Ok::<(), fieldmap::Refusal>(())
+/// ```
+#[allow(clippy::too_many_arguments)]
+pub fn column_at(
+    width: Width,
+    archive: &[u8],
+    packing: Packing,
+    examination: u32,
+    eye: u8,
+    x: impl RangeBounds<i8>,
+    keys: &mut [u64],
+    values: &mut [u64],
+) -> Result<Matched, Refusal> {
     let ends = ends(packing, x.start_bound(), x.end_bound());
     let mut matching = 0;
     let code = ffi::column(
+        width,
         archive,
-        packing as u8,
-        (examination, eye),
+        (packing as u8, examination, eye),
         ends,
         keys,
         values,

@@ -1,0 +1,153 @@
+//! A safe function over each call that takes a width.
+
+use super::{
+    fieldmap_build, fieldmap_build_length, fieldmap_certify, fieldmap_check, fieldmap_column,
+    fieldmap_lookup, fieldmap_lookup_bytes, fieldmap_lookup_many, fieldmap_range, fieldmap_walk,
+};
+use crate::Width;
+
+pub fn check(width: Width, archive: &[u8]) -> i64 {
+    // SAFETY: as `ffi.rs` says.
+    unsafe { fieldmap_check(width as u8, archive.as_ptr(), archive.len()) }
+}
+
+pub fn certify(width: Width, archive: &[u8]) -> i64 {
+    // SAFETY: as `ffi.rs` says.
+    unsafe { fieldmap_certify(width as u8, archive.as_ptr(), archive.len()) }
+}
+
+pub fn lookup(width: Width, archive: &[u8], key: u64, value: &mut u64, position: &mut u64) -> i64 {
+    // SAFETY: as `ffi.rs` says.
+    unsafe {
+        fieldmap_lookup(
+            width as u8,
+            archive.as_ptr(),
+            archive.len(),
+            key,
+            value,
+            position,
+        )
+    }
+}
+
+pub fn lookup_bytes(width: Width, archive: &[u8], key: u64, start: &mut u64) -> i64 {
+    // SAFETY: as `ffi.rs` says.
+    unsafe { fieldmap_lookup_bytes(width as u8, archive.as_ptr(), archive.len(), key, start) }
+}
+
+pub fn lookup_many(width: Width, archive: &[u8], keys: &[u64], values: &mut [u64]) -> i64 {
+    // SAFETY: as `ffi.rs` says.
+    unsafe {
+        fieldmap_lookup_many(
+            width as u8,
+            archive.as_ptr(),
+            archive.len(),
+            keys.as_ptr(),
+            keys.len(),
+            values.as_mut_ptr(),
+            values.len(),
+        )
+    }
+}
+
+pub fn walk(
+    width: Width,
+    archive: &[u8],
+    keys: &mut [u64],
+    values: &mut [u64],
+    count: &mut u64,
+) -> i64 {
+    // SAFETY: as `ffi.rs` says.
+    unsafe {
+        fieldmap_walk(
+            width as u8,
+            archive.as_ptr(),
+            archive.len(),
+            keys.as_mut_ptr(),
+            keys.len(),
+            values.as_mut_ptr(),
+            values.len(),
+            count,
+        )
+    }
+}
+
+/// A bound passes as its kind and its key.
+pub fn range(
+    width: Width,
+    archive: &[u8],
+    (lower_kind, lower): (u8, u64),
+    (upper_kind, upper): (u8, u64),
+    keys: &mut [u64],
+    values: &mut [u64],
+    matching: &mut u64,
+) -> i64 {
+    // SAFETY: as `ffi.rs` says.
+    unsafe {
+        fieldmap_range(
+            width as u8,
+            archive.as_ptr(),
+            archive.len(),
+            lower_kind,
+            lower,
+            upper_kind,
+            upper,
+            keys.as_mut_ptr(),
+            keys.len(),
+            values.as_mut_ptr(),
+            values.len(),
+            matching,
+        )
+    }
+}
+
+/// The packing, the examination and its eye pass together, and so do the two ends of x.
+pub fn column(
+    width: Width,
+    archive: &[u8],
+    (packing, examination, eye): (u8, u32, u8),
+    (a, b): (i8, i8),
+    keys: &mut [u64],
+    values: &mut [u64],
+    matching: &mut u64,
+) -> i64 {
+    // SAFETY: as `ffi.rs` says.
+    unsafe {
+        fieldmap_column(
+            width as u8,
+            archive.as_ptr(),
+            archive.len(),
+            packing,
+            examination,
+            eye,
+            a,
+            b,
+            keys.as_mut_ptr(),
+            keys.len(),
+            values.as_mut_ptr(),
+            values.len(),
+            matching,
+        )
+    }
+}
+
+pub fn build(width: Width, out: &mut [u8], header: usize, keys: &[u64], values: &[u64]) -> i64 {
+    // SAFETY: as `ffi.rs` says.
+    unsafe {
+        fieldmap_build(
+            width as u8,
+            out.as_mut_ptr(),
+            out.len(),
+            header,
+            keys.as_ptr(),
+            keys.len(),
+            values.as_ptr(),
+            values.len(),
+        )
+    }
+}
+
+pub fn build_length(width: Width, entries: usize, header: usize) -> i64 {
+    // SAFETY: no pointer passes.
+    unsafe { fieldmap_build_length(width as u8, entries, header) }
+}

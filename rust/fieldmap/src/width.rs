@@ -1,0 +1,42 @@
+//! The three widths of an archive's offsets and counts.
+
+/// How many bits an archive's offsets and counts have: rkyv's `pointer_width_16`, its default of 32, or its `pointer_width_64`. An archive does
+/// not say which it is, so the caller names it.
+///
+/// A call without a width reads and writes archives of 32 bits, which is the default; the call of the same name and `_at` takes the width first.
+/// As a number, by `as u8`, a width is what `include/fieldmap.h` has for it.
+///
+/// | | `Bits16` | `Bits32` | `Bits64` |
+/// |---|---|---|---|
+/// | record, in bytes | 4, at a multiple of 2 | 8, at a multiple of 4 | 16, at a multiple of 8 |
+/// | leaf, in bytes | 96 | 96 | 96 |
+/// | inner node, in bytes | 104 | 112 | 136 |
+///
+/// # Reading by another width
+///
+/// What [`build`](crate::build()) writes is refused by a wider width than its own, unless it has no entries. By a narrower one it passes, also
+/// certification, as an archive without entries: the upper half of its count is then read as the whole count.
+///
+/// ```
+/// use fieldmap::{Refusal, Width};
+///
+/// let mut archive = [0; 112];
+/// assert_eq!(fieldmap::build_at(Width::Bits64, &mut archive, 0, &[1, 5, 9], &[10, 50, 90]), Ok(112));
+/// assert_eq!(fieldmap::certify_at(Width::Bits64, &archive), Ok(3));
+/// assert_eq!(fieldmap::certify_at(Width::Bits32, &archive), Ok(0));
+///
+/// assert_eq!(fieldmap::build(&mut archive, 0, &[1, 5, 9], &[10, 50, 90]), Ok(104));
+/// assert_eq!(fieldmap::certify_at(Width::Bits64, &archive[..104]), Err(Refusal::InvalidSubtreePointer));
+/// # assert_eq!(Width::default(), Width::Bits32);
+/// ```
+#[derive(Clone, Copy, Debug, Default, PartialEq, Eq, Hash)]
+#[repr(u8)]
+pub enum Width {
+    /// 16 bits. [`build_at`](crate::build_at()) takes up to 2,970 entries and refuses more by 16.
+    Bits16 = 16,
+    /// 32 bits, as rkyv has at its defaults.
+    #[default]
+    Bits32 = 32,
+    /// 64 bits.
+    Bits64 = 64,
+}
