@@ -25,9 +25,9 @@ extern "C" {
 
 /* The version of these declarations. */
 #define FIELDMAP_VERSION_MAJOR 0
-#define FIELDMAP_VERSION_MINOR 3
+#define FIELDMAP_VERSION_MINOR 4
 #define FIELDMAP_VERSION_PATCH 0
-#define FIELDMAP_VERSION "0.3.0"
+#define FIELDMAP_VERSION "0.4.0"
 
 /* The limits. */
 #define FIELDMAP_LONGEST_ARCHIVE 1048576 /* bytes of an archive */
@@ -60,9 +60,27 @@ enum {
     FIELDMAP_HEADER_TOO_LONG = 13,                /* build: the header is longer than 4,096 bytes */
     FIELDMAP_OUTPUT_TOO_SHORT = 14,               /* build: header, padding and archive are longer than the output */
     FIELDMAP_ISIZE_OVERFLOW = 15,                 /* a distance does not fit 64 bits signed */
-    FIELDMAP_OFFSET_OVERFLOW = 16,                /* an offset does not fit 32 bits signed */
+    FIELDMAP_OFFSET_OVERFLOW = 16,                /* an offset does not fit its width, of 16 or 32 bits signed */
     FIELDMAP_INVALID_ALIGNMENT = 17,              /* not 1, 2, 4, 8, 16 or 32, or the next position is too large */
     FIELDMAP_KEY_FIELD_OVERFLOW = 18              /* an examination, an eye or a presentation does not fit its field */
+};
+
+/*
+ * The widths: how many bits an archive's offsets and counts have. An archive does not say which it is, so the caller names it, and each call
+ * that builds, checks or reads takes it first. rkyv has 32 bits at its defaults, the others with its features pointer_width_16 and
+ * pointer_width_64. The sizes in bytes:
+ *
+ *                             16 bits                  32 bits                  64 bits
+ *   record                    4, at a multiple of 2    8, at a multiple of 4    16, at a multiple of 8
+ *   leaf, inner node          96, 104                  96, 112                  96, 136
+ *
+ * What fieldmap_build writes of one entry or more is refused by a width above its own. By one below it passes, also certification, as an archive
+ * without entries: the upper bits of its count are then read as the whole count. So where the width is not known, a count of 0 says nothing.
+ */
+enum {
+    FIELDMAP_WIDTH_16 = 16,
+    FIELDMAP_WIDTH_32 = 32, /* any number other than 16 and 64 means the same */
+    FIELDMAP_WIDTH_64 = 64
 };
 
 /* The kinds of a bound. */
@@ -96,7 +114,7 @@ static inline const char *fieldmap_refusal_text(int64_t answer) {
     case -FIELDMAP_HEADER_TOO_LONG: return "the header is longer than 4,096 bytes";
     case -FIELDMAP_OUTPUT_TOO_SHORT: return "the output is shorter than header, padding and archive";
     case -FIELDMAP_ISIZE_OVERFLOW: return "a distance does not fit 64 bits";
-    case -FIELDMAP_OFFSET_OVERFLOW: return "an offset does not fit 32 bits";
+    case -FIELDMAP_OFFSET_OVERFLOW: return "an offset does not fit its width";
     case -FIELDMAP_INVALID_ALIGNMENT: return "the alignment is none of 1, 2, 4, 8, 16 and 32, or the next position is too large";
     case -FIELDMAP_KEY_FIELD_OVERFLOW: return "an examination, an eye or a presentation does not fit its field";
     default: return "no refusal";
@@ -107,10 +125,10 @@ static inline const char *fieldmap_refusal_text(int64_t answer) {
  * The recorded count of an archive of at most 1,048,576 bytes that rkyv's check, with at most 14 nested nodes, accepts, or the first fault of 1
  * to 7.
  */
-FIELDMAP_MUST_USE int64_t fieldmap_check(const uint8_t *archive, size_t archive_len);
+FIELDMAP_MUST_USE int64_t fieldmap_check(uint8_t width, const uint8_t *archive, size_t archive_len);
 
 /* The recorded count of an accepted archive whose keys strictly ascend and that has no hollow node, or the first fault of 1 to 9. */
-FIELDMAP_MUST_USE int64_t fieldmap_certify(const uint8_t *archive, size_t archive_len);
+FIELDMAP_MUST_USE int64_t fieldmap_certify(uint8_t width, const uint8_t *archive, size_t archive_len);
 
 /*
  * Each reader below runs the check first, range and column certification, on every call.
@@ -122,35 +140,37 @@ FIELDMAP_MUST_USE int64_t fieldmap_certify(const uint8_t *archive, size_t archiv
  * archive that is only accepted it is what rkyv's search finds, which can miss an entry that the walk shows.
  */
 FIELDMAP_MUST_USE int64_t fieldmap_lookup(
-    const uint8_t *archive, size_t archive_len, uint64_t key, uint64_t *value, uint64_t *position);
+    uint8_t width, const uint8_t *archive, size_t archive_len, uint64_t key, uint64_t *value, uint64_t *position);
 
 /*
  * The eight bytes of the value that fieldmap_lookup finds, as a part of the archive: the answer is the part's length, 8, and the position where
  * it starts is stored. Where it finds none, the part is empty: the answer is 0, and nothing is stored. It finds and misses what
  * fieldmap_lookup does.
  */
-FIELDMAP_MUST_USE int64_t fieldmap_lookup_bytes(const uint8_t *archive, size_t archive_len, uint64_t key, uint64_t *start);
+FIELDMAP_MUST_USE int64_t fieldmap_lookup_bytes(uint8_t width, const uint8_t *archive, size_t archive_len, uint64_t key, uint64_t *start);
 
 /*
  * Looks up keys after one check, each as fieldmap_lookup does. The value of a key that is found goes to the place of its key in the values;
  * other places keep what they hold, and keys beyond the values' places are not looked up. The number of keys found.
  */
 FIELDMAP_MUST_USE int64_t fieldmap_lookup_many(
-    const uint8_t *archive, size_t archive_len, const uint64_t *keys, size_t keys_len, uint64_t *values, size_t values_len);
+    uint8_t width, const uint8_t *archive, size_t archive_len, const uint64_t *keys, size_t keys_len,
+    uint64_t *values, size_t values_len);
 
 /*
  * Writes keys and values in the order of the walk until the shorter list is full; other places keep what they hold. The number written; the
  * recorded count is stored.
  */
 FIELDMAP_MUST_USE int64_t fieldmap_walk(
-    const uint8_t *archive, size_t archive_len, uint64_t *keys, size_t keys_len, uint64_t *values, size_t values_len, uint64_t *count);
+    uint8_t width, const uint8_t *archive, size_t archive_len, uint64_t *keys, size_t keys_len, uint64_t *values, size_t values_len,
+    uint64_t *count);
 
 /*
  * Writes keys and values of the entries of a certified archive that meet both bounds, as a walk does. The number written; the number of entries
  * that match is stored. Where the bounds cross, nothing matches.
  */
 FIELDMAP_MUST_USE int64_t fieldmap_range(
-    const uint8_t *archive, size_t archive_len, uint8_t lower_kind, uint64_t lower, uint8_t upper_kind, uint64_t upper,
+    uint8_t width, const uint8_t *archive, size_t archive_len, uint8_t lower_kind, uint64_t lower, uint8_t upper_kind, uint64_t upper,
     uint64_t *keys, size_t keys_len, uint64_t *values, size_t values_len, uint64_t *matching);
 
 /*
@@ -168,18 +188,23 @@ FIELDMAP_MUST_USE int64_t fieldmap_range(
  * 18, where the examination or the eye does not fit its field, comes after 1 to 9.
  */
 FIELDMAP_MUST_USE int64_t fieldmap_column(
-    const uint8_t *archive, size_t archive_len, uint8_t packing, uint32_t examination, uint8_t eye, int8_t a, int8_t b,
+    uint8_t width, const uint8_t *archive, size_t archive_len, uint8_t packing, uint32_t examination, uint8_t eye, int8_t a, int8_t b,
     uint64_t *keys, size_t keys_len, uint64_t *values, size_t values_len, uint64_t *matching);
 
 /*
  * Writes the given entries as an archive behind the first `header` bytes of the output, which stay, as the bytes past the archive do. The
- * archive's end, or the first of 10 to 14. A reader takes the output up to that end.
+ * archive's end, or the first of 10 to 14, then 16. A reader takes the output up to that end. 16 arises with a width of 16 bits only, from 2,971
+ * entries on.
  */
 FIELDMAP_MUST_USE int64_t fieldmap_build(
-    uint8_t *out, size_t out_len, size_t header, const uint64_t *keys, size_t keys_len, const uint64_t *values, size_t values_len);
+    uint8_t width, uint8_t *out, size_t out_len, size_t header, const uint64_t *keys, size_t keys_len,
+    const uint64_t *values, size_t values_len);
 
-/* How long an output has to be for a build of so many entries behind a header: the end that fieldmap_build will answer, or 11 or 13 as there. */
-FIELDMAP_MUST_USE int64_t fieldmap_build_length(size_t entries, size_t header);
+/*
+ * How long an output has to be for a build of so many entries behind a header: the end that fieldmap_build will answer, or the first of 11, 13
+ * and 16 as there.
+ */
+FIELDMAP_MUST_USE int64_t fieldmap_build_length(uint8_t width, size_t entries, size_t header);
 
 /* The parts answer 0 and store what they give. */
 

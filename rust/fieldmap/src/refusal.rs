@@ -36,7 +36,7 @@ pub enum Refusal {
     OutputTooShort,
     /// 15: a distance does not fit 64 bits signed.
     IsizeOverflow,
-    /// 16: an offset does not fit 32 bits signed.
+    /// 16: an offset does not fit its width, of 16 or 32 bits signed.
     OffsetOverflow,
     /// 17: the alignment is not 1, 2, 4, 8, 16 or 32, or the next position passes the largest `u64`.
     InvalidAlignment,
@@ -100,7 +100,7 @@ impl Refusal {
             Refusal::HeaderTooLong => "the header is longer than 4,096 bytes",
             Refusal::OutputTooShort => "the output is shorter than header, padding and archive",
             Refusal::IsizeOverflow => "a distance does not fit 64 bits",
-            Refusal::OffsetOverflow => "an offset does not fit 32 bits",
+            Refusal::OffsetOverflow => "an offset does not fit its width",
             Refusal::InvalidAlignment => {
                 "the alignment is none of 1, 2, 4, 8, 16 and 32, or the next position is too large"
             }

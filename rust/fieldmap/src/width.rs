@@ -14,8 +14,9 @@
 ///
 /// # Reading by another width
 ///
-/// What [`build`](crate::build()) writes is refused by a wider width than its own, unless it has no entries. By a narrower one it passes, also
-/// certification, as an archive without entries: the upper half of its count is then read as the whole count.
+/// What [`build_at`](crate::build_at()) writes of one entry or more is refused by a width above its own. By one below it passes, also
+/// certification, as an archive without entries: the upper bits of its count are then read as the whole count. So where the width is not
+/// known, a count of 0 says nothing.
 ///
 /// ```
 /// use fieldmap::{Refusal, Width};
