@@ -1,8 +1,8 @@
 """list.py FILE PACKING [LIBRARY] prints what an archive is, and its points, as examples/c/list.c does.
 
-PACKING is how x and y stand in the archive's keys, twos-complement or plus-128, which the archive does not say. LIBRARY is the shared library,
-./libfieldmap.so if none is given. The program ends with 0, with 1 where the archive is refused, and with 2 where the arguments are not understood or
-the file or the library cannot be read.
+PACKING is how x and y stand in the archive's keys, twos-complement or plus-128, which the archive does not say. Its offsets and counts must have 32
+bits, which it does not say either: of one with 64 bits the list is empty. LIBRARY is the shared library, ./libfieldmap.so if none is given. The program
+ends with 0, with 1 where the archive is refused, and with 2 where the arguments are not understood or the file or the library cannot be read.
 """
 import ctypes as c
 import sys
@@ -21,6 +21,9 @@ a key is not above the one before""".splitlines()
 # The packings by their names, as fieldmap.h numbers them.
 PACKINGS = {"twos-complement": 0, "plus-128": 1}
 
+# The width of the archive's offsets and counts.
+WIDTH = 32
+
 
 def fail(*words):
     print("list.py:", *words, file=sys.stderr)
@@ -37,12 +40,12 @@ try:
         archive = opened.read()
 except OSError as error:
     fail(error)
-BYTES, SIZE, U64 = c.c_char_p, c.c_size_t, c.POINTER(c.c_uint64)
+BITS, BYTES, SIZE, U64 = c.c_uint8, c.c_char_p, c.c_size_t, c.POINTER(c.c_uint64)
 FIELDS = c.c_uint32, c.c_uint8, c.c_int8, c.c_int8, c.c_uint32
 for call, *arguments in [
-    (fieldmap.fieldmap_check, BYTES, SIZE),
-    (fieldmap.fieldmap_certify, BYTES, SIZE),
-    (fieldmap.fieldmap_walk, BYTES, SIZE, U64, SIZE, U64, SIZE, U64),
+    (fieldmap.fieldmap_check, BITS, BYTES, SIZE),
+    (fieldmap.fieldmap_certify, BITS, BYTES, SIZE),
+    (fieldmap.fieldmap_walk, BITS, BYTES, SIZE, U64, SIZE, U64, SIZE, U64),
     (fieldmap.fieldmap_unpack, c.c_uint64, c.c_uint8, *map(c.POINTER, FIELDS)),
     (fieldmap.fieldmap_seen, c.c_uint64),
     (fieldmap.fieldmap_threshold, c.c_uint64),
@@ -54,15 +57,15 @@ def refused(answer):
     return f"refused {-answer}: {REFUSALS[-answer - 1]}"
 
 
-certified = fieldmap.fieldmap_certify(archive, len(archive))
-count = certified if certified >= 0 else fieldmap.fieldmap_check(archive, len(archive))
+certified = fieldmap.fieldmap_certify(WIDTH, archive, len(archive))
+count = certified if certified >= 0 else fieldmap.fieldmap_check(WIDTH, archive, len(archive))
 if count < 0:
     print(refused(count))
     sys.exit(1)
 if certified < 0:
     print("not certified:", refused(certified), file=sys.stderr)
 keys, values, recorded = (c.c_uint64 * count)(), (c.c_uint64 * count)(), c.c_uint64()
-written = fieldmap.fieldmap_walk(archive, len(archive), keys, count, values, count, recorded)
+written = fieldmap.fieldmap_walk(WIDTH, archive, len(archive), keys, count, values, count, recorded)
 print("certified" if certified >= 0 else "open", count)
 for key, value in zip(keys[:written], values[:written]):
     fields = [field() for field in FIELDS]

@@ -1,35 +1,20 @@
 /*
- * Uses every call of fieldmap.h and holds what it gives against docs/FORMAT.md. Prints `every call answers as it should` and ends with 0, or names
- * the first line that does not hold and ends with 1. It compiles as C99 and as C++17.
+ * Uses every call of fieldmap.h and holds what it gives against docs/FORMAT.md, those that take a width with each number from 0 to 255. Prints
+ * `every call answers as it should` and ends with 0, or names the first line that does not hold and ends with 1. It compiles as C99 and as C++17.
  */
-#include <stdint.h>
-#include <stdio.h>
-#include <stdlib.h>
 #include <string.h>
 
+#include "expect.h"
 #include "fieldmap.h"
 
-#define EXPECT(holds)                                                                                                                          \
-    do {                                                                                                                                       \
-        if (!(holds)) {                                                                                                                        \
-            printf("%s:%d: %s\n", __FILE__, __LINE__, #holds);                                                                                 \
-            exit(1);                                                                                                                           \
-        }                                                                                                                                      \
-    } while (0)
-
-/* A call is refused, also where its answer is cut to an int. */
-#define REFUSED(call, why)                                                                                                                     \
-    do {                                                                                                                                       \
-        int64_t refusal = (call);                                                                                                              \
-        EXPECT(refusal == -(why) && (int)refusal == -(why));                                                                                   \
-    } while (0)
-
-/* What a place holds before a call. */
-#define BEFORE UINT64_C(0x5555555555555555)
-
-enum { ENTRIES = 36, ROOM = 40, LENGTH = 808 };
+enum { ENTRIES = 36, ROOM = 40, LONGEST = 864, LEAF = 96 };
 
 static uint64_t keys[ROOM], values[ROOM];
+
+/* By the width: the bytes of a record, and of the archive of the keys 1 to 36. A record that starts at position 1 is misaligned by each. */
+static size_t record, length;
+
+#define MISALIGNED (record + 1)
 
 /* A stored number between two others, which must stay. */
 struct stored {
@@ -61,7 +46,7 @@ static int holds_list(size_t n, uint64_t first)
 }
 
 /* The archive of the keys 1 to 36. */
-static void build(uint8_t *archive, size_t length)
+static void build(uint8_t *archive, size_t room)
 {
     uint64_t given_keys[ENTRIES], given_values[ENTRIES];
     const uint64_t falling[2] = {2, 1};
@@ -70,43 +55,45 @@ static void build(uint8_t *archive, size_t length)
         given_values[i] = 10 * (i + 1);
     }
     uint8_t first = archive[0];
-    REFUSED(fieldmap_build(archive, length, 0, given_keys, ENTRIES, given_values, ENTRIES - 1), FIELDMAP_ITERATOR_LENGTH_MISMATCH);
-    REFUSED(fieldmap_build(archive, length, 0, falling, 2, falling, 2), FIELDMAP_GIVEN_KEYS_NOT_ASCENDING);
-    REFUSED(fieldmap_build(archive, length, FIELDMAP_LONGEST_HEADER + 1, given_keys, 1, given_values, 1), FIELDMAP_HEADER_TOO_LONG);
-    REFUSED(fieldmap_build(archive, LENGTH - 1, 0, given_keys, ENTRIES, given_values, ENTRIES), FIELDMAP_OUTPUT_TOO_SHORT);
+    REFUSED(fieldmap_build(width, archive, room, 0, given_keys, ENTRIES, given_values, ENTRIES - 1), FIELDMAP_ITERATOR_LENGTH_MISMATCH);
+    REFUSED(fieldmap_build(width, archive, room, 0, falling, 2, falling, 2), FIELDMAP_GIVEN_KEYS_NOT_ASCENDING);
+    REFUSED(fieldmap_build(width, archive, room, FIELDMAP_LONGEST_HEADER + 1, given_keys, 1, given_values, 1), FIELDMAP_HEADER_TOO_LONG);
+    REFUSED(fieldmap_build(width, archive, length - 1, 0, given_keys, ENTRIES, given_values, ENTRIES), FIELDMAP_OUTPUT_TOO_SHORT);
     EXPECT(archive[0] == first);
-    EXPECT(fieldmap_build(archive, length, 0, given_keys, ENTRIES, given_values, ENTRIES) == LENGTH);
-    EXPECT(archive[LENGTH] == 0xaa);
+    EXPECT(fieldmap_build(width, archive, room, 0, given_keys, ENTRIES, given_values, ENTRIES) == (int64_t)length);
+    EXPECT(archive[length] == 0xaa);
 }
 
 static void lengths(void)
 {
-    EXPECT(fieldmap_build_length(0, 0) == 8 && fieldmap_build_length(ENTRIES, 0) == LENGTH && fieldmap_build_length(1, 5) == 112);
-    EXPECT(fieldmap_build_length(FIELDMAP_MOST_ENTRIES, FIELDMAP_LONGEST_HEADER) <= FIELDMAP_LONGEST_ARCHIVE);
-    REFUSED(fieldmap_build_length(FIELDMAP_MOST_ENTRIES + 1, 0), FIELDMAP_TOO_MANY_ENTRIES);
-    REFUSED(fieldmap_build_length(SIZE_MAX, SIZE_MAX), FIELDMAP_TOO_MANY_ENTRIES);
-    REFUSED(fieldmap_build_length(0, FIELDMAP_LONGEST_HEADER + 1), FIELDMAP_HEADER_TOO_LONG);
-    REFUSED(fieldmap_build_length(0, SIZE_MAX), FIELDMAP_HEADER_TOO_LONG);
+    int64_t most = fieldmap_build_length(width, FIELDMAP_MOST_ENTRIES, FIELDMAP_LONGEST_HEADER);
+    EXPECT(fieldmap_build_length(width, 0, 0) == (int64_t)record && fieldmap_build_length(width, ENTRIES, 0) == (int64_t)length);
+    EXPECT(fieldmap_build_length(width, 1, 5) == (int64_t)(8 + LEAF + record));
+    EXPECT(width == FIELDMAP_WIDTH_16 ? most == -FIELDMAP_OFFSET_OVERFLOW : most > 0 && most <= FIELDMAP_LONGEST_ARCHIVE);
+    REFUSED(fieldmap_build_length(width, FIELDMAP_MOST_ENTRIES + 1, 0), FIELDMAP_TOO_MANY_ENTRIES);
+    REFUSED(fieldmap_build_length(width, SIZE_MAX, SIZE_MAX), FIELDMAP_TOO_MANY_ENTRIES);
+    REFUSED(fieldmap_build_length(width, 0, FIELDMAP_LONGEST_HEADER + 1), FIELDMAP_HEADER_TOO_LONG);
+    REFUSED(fieldmap_build_length(width, 0, SIZE_MAX), FIELDMAP_HEADER_TOO_LONG);
 }
 
 static void read_one(const uint8_t *archive)
 {
     struct stored value = fresh, position = fresh, start = fresh;
-    EXPECT(fieldmap_check(archive, LENGTH) == ENTRIES);
-    EXPECT(fieldmap_certify(archive, LENGTH) == ENTRIES);
-    REFUSED(fieldmap_check(archive, 7), FIELDMAP_INVALID_SUBTREE_POINTER);
-    REFUSED(fieldmap_certify(archive, 7), FIELDMAP_INVALID_SUBTREE_POINTER);
-    EXPECT(fieldmap_lookup(archive, LENGTH, 37, &value.number, &position.number) == 0);
-    REFUSED(fieldmap_lookup(archive, 9, 36, &value.number, &position.number), FIELDMAP_UNALIGNED_POINTER);
+    EXPECT(fieldmap_check(width, archive, length) == ENTRIES);
+    EXPECT(fieldmap_certify(width, archive, length) == ENTRIES);
+    REFUSED(fieldmap_check(width, archive, record - 1), FIELDMAP_INVALID_SUBTREE_POINTER);
+    REFUSED(fieldmap_certify(width, archive, record - 1), FIELDMAP_INVALID_SUBTREE_POINTER);
+    EXPECT(fieldmap_lookup(width, archive, length, 37, &value.number, &position.number) == 0);
+    REFUSED(fieldmap_lookup(width, archive, MISALIGNED, 36, &value.number, &position.number), FIELDMAP_UNALIGNED_POINTER);
     EXPECT(value.number == BEFORE && position.number == BEFORE);
-    EXPECT(fieldmap_lookup(archive, LENGTH, 36, &value.number, &position.number) == 1);
+    EXPECT(fieldmap_lookup(width, archive, length, 36, &value.number, &position.number) == 1);
     EXPECT(value.number == 360 && memcmp(archive + position.number, &value.number, 8) == 0);
     EXPECT(kept(&value) && kept(&position));
 
-    EXPECT(fieldmap_lookup_bytes(archive, LENGTH, 37, &start.number) == 0);
-    REFUSED(fieldmap_lookup_bytes(archive, 9, 36, &start.number), FIELDMAP_UNALIGNED_POINTER);
+    EXPECT(fieldmap_lookup_bytes(width, archive, length, 37, &start.number) == 0);
+    REFUSED(fieldmap_lookup_bytes(width, archive, MISALIGNED, 36, &start.number), FIELDMAP_UNALIGNED_POINTER);
     EXPECT(start.number == BEFORE);
-    EXPECT(fieldmap_lookup_bytes(archive, LENGTH, 36, &start.number) == 8 && start.number == position.number);
+    EXPECT(fieldmap_lookup_bytes(width, archive, length, 36, &start.number) == 8 && start.number == position.number);
     EXPECT(kept(&start));
 }
 
@@ -115,25 +102,25 @@ static void read_lists(const uint8_t *archive)
     struct stored number = fresh;
     uint64_t sought[3] = {36, 0, 5};
     clear_lists();
-    REFUSED(fieldmap_lookup_many(archive, 9, sought, 3, values, ROOM), FIELDMAP_UNALIGNED_POINTER);
-    EXPECT(fieldmap_lookup_many(archive, LENGTH, sought, 3, values, ROOM) == 2);
+    REFUSED(fieldmap_lookup_many(width, archive, MISALIGNED, sought, 3, values, ROOM), FIELDMAP_UNALIGNED_POINTER);
+    EXPECT(fieldmap_lookup_many(width, archive, length, sought, 3, values, ROOM) == 2);
     EXPECT(values[0] == 360 && values[1] == BEFORE && values[2] == 50 && values[3] == BEFORE);
 
     clear_lists();
-    REFUSED(fieldmap_walk(archive, 9, keys, ROOM, values, ROOM, &number.number), FIELDMAP_UNALIGNED_POINTER);
+    REFUSED(fieldmap_walk(width, archive, MISALIGNED, keys, ROOM, values, ROOM, &number.number), FIELDMAP_UNALIGNED_POINTER);
     EXPECT(holds_list(0, 0) && number.number == BEFORE);
-    EXPECT(fieldmap_walk(archive, LENGTH, keys, 3, values, ROOM, &number.number) == 3);
+    EXPECT(fieldmap_walk(width, archive, length, keys, 3, values, ROOM, &number.number) == 3);
     EXPECT(holds_list(3, 1) && number.number == ENTRIES);
 
     clear_lists();
-    REFUSED(fieldmap_range(archive, 9, FIELDMAP_EXCLUDED, 3, FIELDMAP_INCLUDED, 7, keys, ROOM, values, ROOM, &number.number),
+    REFUSED(fieldmap_range(width, archive, MISALIGNED, FIELDMAP_EXCLUDED, 3, FIELDMAP_INCLUDED, 7, keys, ROOM, values, ROOM, &number.number),
             FIELDMAP_UNALIGNED_POINTER);
-    EXPECT(fieldmap_range(archive, LENGTH, FIELDMAP_EXCLUDED, 3, FIELDMAP_INCLUDED, 7, keys, ROOM, values, ROOM, &number.number) == 4);
+    EXPECT(fieldmap_range(width, archive, length, FIELDMAP_EXCLUDED, 3, FIELDMAP_INCLUDED, 7, keys, ROOM, values, ROOM, &number.number) == 4);
     EXPECT(holds_list(4, 4) && number.number == 4);
     clear_lists();
-    EXPECT(fieldmap_range(archive, LENGTH, FIELDMAP_UNBOUNDED, 0, FIELDMAP_EXCLUDED, 30, keys, 2, values, 1, &number.number) == 1);
+    EXPECT(fieldmap_range(width, archive, length, FIELDMAP_UNBOUNDED, 0, FIELDMAP_EXCLUDED, 30, keys, 2, values, 1, &number.number) == 1);
     EXPECT(holds_list(1, 1) && number.number == 29);
-    EXPECT(fieldmap_range(archive, LENGTH, 255, 9, 3, 0, keys, ROOM, values, ROOM, &number.number) == ENTRIES);
+    EXPECT(fieldmap_range(width, archive, length, 255, 9, 3, 0, keys, ROOM, values, ROOM, &number.number) == ENTRIES);
     EXPECT(holds_list(ENTRIES, 1) && number.number == ENTRIES && kept(&number));
 }
 
@@ -151,19 +138,20 @@ static const struct query new_queries[8] = {{-1, -1, 0, 1}, {-1, 1, 0, 3},  {-12
 
 static void read_columns(uint8_t packing, const int8_t *x, const struct query *queries, size_t number)
 {
-    uint8_t archive[104];
+    uint8_t archive[LEAF + 16];
+    size_t end = LEAF + record;
     uint64_t points[3];
     struct stored matching = fresh;
     for (size_t i = 0; i < 3; i++)
         EXPECT(fieldmap_pack(packing, 4, 1, x[i], -5, 6, &points[i]) == 0);
-    EXPECT(fieldmap_build(archive, 104, 0, points, 3, points, 3) == 104);
-    REFUSED(fieldmap_column(archive, 104, packing, 4, 2, 0, 1, NULL, 0, NULL, 0, &matching.number), FIELDMAP_KEY_FIELD_OVERFLOW);
-    REFUSED(fieldmap_column(archive, 104, packing, 1 << 24, 1, 0, 1, NULL, 0, NULL, 0, &matching.number), FIELDMAP_KEY_FIELD_OVERFLOW);
-    REFUSED(fieldmap_column(archive, 9, packing, 4, 2, 0, 1, NULL, 0, NULL, 0, &matching.number), FIELDMAP_UNALIGNED_POINTER);
+    EXPECT(fieldmap_build(width, archive, end, 0, points, 3, points, 3) == (int64_t)end);
+    REFUSED(fieldmap_column(width, archive, end, packing, 4, 2, 0, 1, NULL, 0, NULL, 0, &matching.number), FIELDMAP_KEY_FIELD_OVERFLOW);
+    REFUSED(fieldmap_column(width, archive, end, packing, 1 << 24, 1, 0, 1, NULL, 0, NULL, 0, &matching.number), FIELDMAP_KEY_FIELD_OVERFLOW);
+    REFUSED(fieldmap_column(width, archive, MISALIGNED, packing, 4, 2, 0, 1, NULL, 0, NULL, 0, &matching.number), FIELDMAP_UNALIGNED_POINTER);
     EXPECT(matching.number == BEFORE);
     for (const struct query *q = queries; q < queries + number; q++) {
         uint64_t found[3] = {BEFORE, BEFORE, BEFORE}, theirs[3] = {BEFORE, BEFORE, BEFORE};
-        EXPECT(fieldmap_column(archive, 104, packing, 4, 1, q->a, q->b, found, 3, theirs, 3, &matching.number) == (int64_t)q->n);
+        EXPECT(fieldmap_column(width, archive, end, packing, 4, 1, q->a, q->b, found, 3, theirs, 3, &matching.number) == (int64_t)q->n);
         EXPECT(matching.number == q->n && kept(&matching));
         for (size_t i = 0; i < 3; i++)
             EXPECT(found[i] == (i < q->n ? points[q->first + i] : BEFORE) && theirs[i] == found[i]);
@@ -174,36 +162,36 @@ static void read_columns(uint8_t packing, const int8_t *x, const struct query *q
 static void null_lists(const uint8_t *archive)
 {
     uint64_t one = 1, n = BEFORE;
-    uint8_t out[8];
-    REFUSED(fieldmap_check(NULL, 0), FIELDMAP_INVALID_SUBTREE_POINTER);
-    REFUSED(fieldmap_certify(NULL, 0), FIELDMAP_INVALID_SUBTREE_POINTER);
-    REFUSED(fieldmap_lookup(NULL, 0, 1, &one, &n), FIELDMAP_INVALID_SUBTREE_POINTER);
-    REFUSED(fieldmap_lookup_bytes(NULL, 0, 1, &n), FIELDMAP_INVALID_SUBTREE_POINTER);
-    REFUSED(fieldmap_lookup_many(NULL, 0, NULL, 0, NULL, 0), FIELDMAP_INVALID_SUBTREE_POINTER);
-    REFUSED(fieldmap_walk(NULL, 0, NULL, 0, NULL, 0, &n), FIELDMAP_INVALID_SUBTREE_POINTER);
-    REFUSED(fieldmap_range(NULL, 0, 2, 0, 2, 0, NULL, 0, NULL, 0, &n), FIELDMAP_INVALID_SUBTREE_POINTER);
-    REFUSED(fieldmap_column(NULL, 0, 0, 0, 0, 0, 0, NULL, 0, NULL, 0, &n), FIELDMAP_INVALID_SUBTREE_POINTER);
+    uint8_t out[16];
+    REFUSED(fieldmap_check(width, NULL, 0), FIELDMAP_INVALID_SUBTREE_POINTER);
+    REFUSED(fieldmap_certify(width, NULL, 0), FIELDMAP_INVALID_SUBTREE_POINTER);
+    REFUSED(fieldmap_lookup(width, NULL, 0, 1, &one, &n), FIELDMAP_INVALID_SUBTREE_POINTER);
+    REFUSED(fieldmap_lookup_bytes(width, NULL, 0, 1, &n), FIELDMAP_INVALID_SUBTREE_POINTER);
+    REFUSED(fieldmap_lookup_many(width, NULL, 0, NULL, 0, NULL, 0), FIELDMAP_INVALID_SUBTREE_POINTER);
+    REFUSED(fieldmap_walk(width, NULL, 0, NULL, 0, NULL, 0, &n), FIELDMAP_INVALID_SUBTREE_POINTER);
+    REFUSED(fieldmap_range(width, NULL, 0, 2, 0, 2, 0, NULL, 0, NULL, 0, &n), FIELDMAP_INVALID_SUBTREE_POINTER);
+    REFUSED(fieldmap_column(width, NULL, 0, 0, 0, 0, 0, 0, NULL, 0, NULL, 0, &n), FIELDMAP_INVALID_SUBTREE_POINTER);
     EXPECT(one == 1 && n == BEFORE);
 
     clear_lists();
-    EXPECT(fieldmap_lookup_many(archive, LENGTH, NULL, 0, NULL, 0) == 0);
-    EXPECT(fieldmap_lookup_many(archive, LENGTH, &one, 1, NULL, 0) == 0);
-    EXPECT(fieldmap_lookup_many(archive, LENGTH, NULL, 0, values, ROOM) == 0);
-    EXPECT(fieldmap_walk(archive, LENGTH, NULL, 0, NULL, 0, &n) == 0 && n == ENTRIES);
-    EXPECT(fieldmap_walk(archive, LENGTH, keys, ROOM, NULL, 0, &n) == 0 && n == ENTRIES);
-    EXPECT(fieldmap_walk(archive, LENGTH, NULL, 0, values, ROOM, &n) == 0 && n == ENTRIES);
-    EXPECT(fieldmap_range(archive, LENGTH, FIELDMAP_INCLUDED, 1, FIELDMAP_INCLUDED, 5, NULL, 0, NULL, 0, &n) == 0 && n == 5);
-    EXPECT(fieldmap_range(archive, LENGTH, FIELDMAP_INCLUDED, 1, FIELDMAP_INCLUDED, 6, keys, ROOM, NULL, 0, &n) == 0 && n == 6);
-    EXPECT(fieldmap_range(archive, LENGTH, FIELDMAP_INCLUDED, 1, FIELDMAP_INCLUDED, 7, NULL, 0, values, ROOM, &n) == 0 && n == 7);
-    EXPECT(fieldmap_column(archive, LENGTH, 0, 0, 0, 0, 0, NULL, 0, NULL, 0, &n) == 0 && n == ENTRIES);
-    EXPECT(fieldmap_column(archive, LENGTH, 0, 0, 0, 0, 0, keys, ROOM, NULL, 0, &n) == 0 && n == ENTRIES);
-    EXPECT(fieldmap_column(archive, LENGTH, 1, 0, 0, -128, 0, NULL, 0, values, ROOM, &n) == 0 && n == ENTRIES);
+    EXPECT(fieldmap_lookup_many(width, archive, length, NULL, 0, NULL, 0) == 0);
+    EXPECT(fieldmap_lookup_many(width, archive, length, &one, 1, NULL, 0) == 0);
+    EXPECT(fieldmap_lookup_many(width, archive, length, NULL, 0, values, ROOM) == 0);
+    EXPECT(fieldmap_walk(width, archive, length, NULL, 0, NULL, 0, &n) == 0 && n == ENTRIES);
+    EXPECT(fieldmap_walk(width, archive, length, keys, ROOM, NULL, 0, &n) == 0 && n == ENTRIES);
+    EXPECT(fieldmap_walk(width, archive, length, NULL, 0, values, ROOM, &n) == 0 && n == ENTRIES);
+    EXPECT(fieldmap_range(width, archive, length, FIELDMAP_INCLUDED, 1, FIELDMAP_INCLUDED, 5, NULL, 0, NULL, 0, &n) == 0 && n == 5);
+    EXPECT(fieldmap_range(width, archive, length, FIELDMAP_INCLUDED, 1, FIELDMAP_INCLUDED, 6, keys, ROOM, NULL, 0, &n) == 0 && n == 6);
+    EXPECT(fieldmap_range(width, archive, length, FIELDMAP_INCLUDED, 1, FIELDMAP_INCLUDED, 7, NULL, 0, values, ROOM, &n) == 0 && n == 7);
+    EXPECT(fieldmap_column(width, archive, length, 0, 0, 0, 0, 0, NULL, 0, NULL, 0, &n) == 0 && n == ENTRIES);
+    EXPECT(fieldmap_column(width, archive, length, 0, 0, 0, 0, 0, keys, ROOM, NULL, 0, &n) == 0 && n == ENTRIES);
+    EXPECT(fieldmap_column(width, archive, length, 1, 0, 0, -128, 0, NULL, 0, values, ROOM, &n) == 0 && n == ENTRIES);
     EXPECT(holds_list(0, 0));
 
-    REFUSED(fieldmap_build(NULL, 0, 0, NULL, 0, NULL, 0), FIELDMAP_OUTPUT_TOO_SHORT);
-    REFUSED(fieldmap_build(out, 8, 0, &one, 1, NULL, 0), FIELDMAP_ITERATOR_LENGTH_MISMATCH);
-    REFUSED(fieldmap_build(out, 8, 0, NULL, 0, &one, 1), FIELDMAP_ITERATOR_LENGTH_MISMATCH);
-    EXPECT(fieldmap_build(out, 8, 0, NULL, 0, NULL, 0) == 8 && fieldmap_certify(out, 8) == 0);
+    REFUSED(fieldmap_build(width, NULL, 0, 0, NULL, 0, NULL, 0), FIELDMAP_OUTPUT_TOO_SHORT);
+    REFUSED(fieldmap_build(width, out, record, 0, &one, 1, NULL, 0), FIELDMAP_ITERATOR_LENGTH_MISMATCH);
+    REFUSED(fieldmap_build(width, out, record, 0, NULL, 0, &one, 1), FIELDMAP_ITERATOR_LENGTH_MISMATCH);
+    EXPECT(fieldmap_build(width, out, record, 0, NULL, 0, NULL, 0) == (int64_t)record && fieldmap_certify(width, out, record) == 0);
 }
 
 static void parts(void)
@@ -275,23 +263,34 @@ static void texts(void)
     EXPECT(strcmp(version, FIELDMAP_VERSION) == 0);
 }
 
-int main(void)
+/* The calls that take a width. Any number but 16 and 64 is a width of 32 bits. */
+static void archives(uint8_t number)
 {
-    static uint8_t archive[LENGTH + 8];
+    static uint8_t archive[LONGEST + 8];
     const uint8_t plus_128[3] = {FIELDMAP_PLUS_128, 2, 255};
+    width = number;
+    record = width == FIELDMAP_WIDTH_16 ? 4 : width == FIELDMAP_WIDTH_64 ? 16 : 8;
+    length = width == FIELDMAP_WIDTH_16 ? 788 : width == FIELDMAP_WIDTH_64 ? LONGEST : 808;
     memset(archive, 0xaa, sizeof archive);
     build(archive, sizeof archive);
     lengths();
     read_one(archive);
     read_lists(archive);
     null_lists(archive);
-    parts();
     read_columns(FIELDMAP_TWOS_COMPLEMENT, old_x, old_queries, 5);
-    fields(FIELDMAP_TWOS_COMPLEMENT, UINT64_C(1642850156546));
-    for (size_t i = 0; i < 3; i++) {
+    for (size_t i = 0; i < 3; i++)
         read_columns(plus_128[i], new_x, new_queries, 8);
-        fields(plus_128[i], UINT64_C(1369045991426));
-    }
+}
+
+int main(void)
+{
+    for (int number = 0; number <= 255; number++)
+        archives((uint8_t)number);
+    parts();
+    fields(FIELDMAP_TWOS_COMPLEMENT, UINT64_C(1642850156546));
+    fields(FIELDMAP_PLUS_128, UINT64_C(1369045991426));
+    fields(2, UINT64_C(1369045991426));
+    fields(255, UINT64_C(1369045991426));
     bits_of_values();
     texts();
     printf("every call answers as it should\n");

@@ -1,6 +1,7 @@
 /*
  * stack LIMIT measures how much stack the calls that take lists use: on archives of 1 to 15 nested nodes and on the longest, and in builds up to
- * the largest. Prints the most bytes of each call, and ends with 1 if one uses more than LIMIT, with 2 if an archive is not what it should be.
+ * the largest, each by 16, 32 and 64 bits. Prints the most bytes of each call, and ends with 1 if one uses more than LIMIT, with 2 if an archive
+ * is not what it should be.
  *
  * A call runs on a stack of its own, every byte of which holds the same number; it has used what is above the lowest byte that holds another
  * one. It runs twice, since what it stores may be the number itself. What a call takes that does nothing is taken off. Linked with -z now, so
@@ -16,7 +17,13 @@
 #include "fieldmap.h"
 
 /* A leaf's count stands where an inner node has its children. One node more than may be nested. */
-enum { STACK = 1 << 18, LEAF = 96, INNER = 112, KEYS = 8, CHILDREN = 88, NESTED = FIELDMAP_MOST_NESTED + 1 };
+enum { STACK = 1 << 18, LEAF = 96, KEYS = 8, CHILDREN = 88, NESTED = FIELDMAP_MOST_NESTED + 1 };
+
+/* The width that the calls are given, with the bytes of an offset or a count and of an inner node, and the most entries of a build. */
+static struct {
+    uint8_t bits;
+    size_t number, inner, most;
+} width, widths[3] = {{FIELDMAP_WIDTH_16, 2, 104, 2970}, {FIELDMAP_WIDTH_32, 4, 112, 40000}, {FIELDMAP_WIDTH_64, 8, 136, 40000}};
 
 static uint8_t stack[STACK] __attribute__((aligned(64)));
 static ucontext_t here, there;
@@ -29,17 +36,17 @@ static volatile int64_t answer;
 #define LISTS keys, FIELDMAP_MOST_ENTRIES, values, FIELDMAP_MOST_ENTRIES
 
 static void nothing(void) { answer = 0; }
-static void check(void) { answer = fieldmap_check(archive, length); }
-static void certify(void) { answer = fieldmap_certify(archive, length); }
-static void lookup(void) { answer = fieldmap_lookup(archive, length, 999, &number, &position); }
-static void lookup_bytes(void) { answer = fieldmap_lookup_bytes(archive, length, 999, &position); }
-static void lookup_many(void) { answer = fieldmap_lookup_many(archive, length, LISTS); }
-static void walk(void) { answer = fieldmap_walk(archive, length, LISTS, &number); }
-static void range(void) { answer = fieldmap_range(archive, length, FIELDMAP_EXCLUDED, 0, FIELDMAP_EXCLUDED, UINT64_MAX, LISTS, &number); }
-static void old_column(void) { answer = fieldmap_column(archive, length, FIELDMAP_TWOS_COMPLEMENT, 0, 0, 0, -1, LISTS, &number); }
-static void new_column(void) { answer = fieldmap_column(archive, length, FIELDMAP_PLUS_128, 0, 0, -128, 127, LISTS, &number); }
-static void build(void) { answer = fieldmap_build(archive, sizeof archive, 0, keys, entries, values, entries); }
-static void build_length(void) { answer = fieldmap_build_length(entries, 0); }
+static void check(void) { answer = fieldmap_check(width.bits, archive, length); }
+static void certify(void) { answer = fieldmap_certify(width.bits, archive, length); }
+static void lookup(void) { answer = fieldmap_lookup(width.bits, archive, length, 999, &number, &position); }
+static void lookup_bytes(void) { answer = fieldmap_lookup_bytes(width.bits, archive, length, 999, &position); }
+static void lookup_many(void) { answer = fieldmap_lookup_many(width.bits, archive, length, LISTS); }
+static void walk(void) { answer = fieldmap_walk(width.bits, archive, length, LISTS, &number); }
+static void range(void) { answer = fieldmap_range(width.bits, archive, length, FIELDMAP_EXCLUDED, 0, FIELDMAP_EXCLUDED, UINT64_MAX, LISTS, &number); }
+static void old_column(void) { answer = fieldmap_column(width.bits, archive, length, FIELDMAP_TWOS_COMPLEMENT, 0, 0, 0, -1, LISTS, &number); }
+static void new_column(void) { answer = fieldmap_column(width.bits, archive, length, FIELDMAP_PLUS_128, 0, 0, -128, 127, LISTS, &number); }
+static void build(void) { answer = fieldmap_build(width.bits, archive, sizeof archive, 0, keys, entries, values, entries); }
+static void build_length(void) { answer = fieldmap_build_length(width.bits, entries, 0); }
 
 /* The calls, each with the most that it has used so far. The builds come last. */
 static struct {
@@ -96,7 +103,7 @@ static void put(size_t at, uint64_t bits, size_t bytes)
 static void put_leaf(size_t at, uint64_t key)
 {
     put(at + KEYS, key, 8);
-    put(at + CHILDREN, 1, 4);
+    put(at + CHILDREN, 1, width.number);
 }
 
 /*
@@ -109,8 +116,8 @@ static void put_inner(size_t at, size_t height, size_t child, size_t below, size
     for (size_t slot = 0; slot < 5; slot++)
         put(at + KEYS + 8 * slot, slot < child ? 10 * (NESTED - height) + 1 + slot : 1000 + 10 * height + slot, 8);
     for (size_t i = 0; i < 6; i++) {
-        size_t field = at + CHILDREN + 4 * i;
-        put(field, i == child ? below - field : i == 0 ? first - field : 1, 4);
+        size_t field = at + CHILDREN + width.number * i;
+        put(field, i == child ? below - field : i == 0 ? first - field : 1, width.number);
     }
 }
 
@@ -118,7 +125,7 @@ static void put_inner(size_t at, size_t height, size_t child, size_t below, size
 static size_t nest(size_t nodes, size_t child)
 {
     size_t inner = nodes - 1, leaves = child > 0 ? inner : 0, root = leaves * LEAF;
-    memset(archive, 0, NESTED * (LEAF + INNER));
+    memset(archive, 0, NESTED * (LEAF + width.inner));
     put_leaf(root, 999);
     length = root + LEAF;
     for (size_t height = 1; height <= inner; height++) {
@@ -127,38 +134,38 @@ static size_t nest(size_t nodes, size_t child)
             put_leaf(first, 10 * (NESTED - height));
         put_inner(length, height, child, root, first);
         root = length;
-        length += INNER;
+        length += width.inner;
     }
-    put(length, root - length, 4);
-    put(length + 4, 1 + 5 * inner + leaves, 4);
-    length += 8;
+    put(length, root - length, width.number);
+    put(length + width.number, 1 + 5 * inner + leaves, width.number);
+    length += 2 * width.number;
     return 1 + 5 * inner + leaves;
 }
 
-/* The archive of the most entries at the end of the longest archive, and whether it is certified. */
+/* The archive of so many entries at the end of the longest archive in which its nodes are aligned, and whether it is certified. */
 static int longest(void)
 {
     build();
-    size_t end = (size_t)answer;
-    length = sizeof archive;
-    memmove(archive + length - end, archive, end);
-    return fieldmap_certify(archive, length) == FIELDMAP_MOST_ENTRIES;
+    size_t end = (size_t)answer, start = (sizeof archive - end) / 8 * 8;
+    length = start + end;
+    memmove(archive + start, archive, end);
+    return fieldmap_certify(width.bits, archive, length) == (int64_t)entries;
 }
 
-static int measure_all(void)
+static int measure_by_width(void)
 {
     for (size_t i = 0; i < FIELDMAP_MOST_ENTRIES; i++)
         keys[i] = values[i] = i;
-    for (entries = 0; entries < FIELDMAP_MOST_ENTRIES; entries += 1 + entries / 2)
+    for (entries = 0; entries < width.most; entries += 1 + entries / 2)
         measure(READERS, CALLS);
-    entries = FIELDMAP_MOST_ENTRIES;
+    entries = width.most;
     measure(READERS, CALLS);
     if (!longest())
         return 0;
     measure(0, READERS);
     for (size_t i = 0; i < NESTED * 6; i++) {
         size_t nodes = 1 + i / 6, count = nest(nodes, i % 6);
-        if (fieldmap_certify(archive, length) != (nodes < NESTED ? (int64_t)count : -FIELDMAP_EXCEEDED_MAXIMUM_SUBTREE_DEPTH))
+        if (fieldmap_certify(width.bits, archive, length) != (nodes < NESTED ? (int64_t)count : -FIELDMAP_EXCEEDED_MAXIMUM_SUBTREE_DEPTH))
             return 0;
         measure(0, READERS);
     }
@@ -169,8 +176,11 @@ int main(int argc, char **argv)
 {
     long limit = argc == 2 ? atol(argv[1]) : 0;
     int status = 0;
-    if (!measure_all())
-        return 2;
+    for (size_t i = 0; i < 3; i++) {
+        width = widths[i];
+        if (!measure_by_width())
+            return 2;
+    }
     for (size_t i = 0; i < CALLS; i++) {
         printf("%5zu bytes of stack: %s\n", calls[i].most, calls[i].name);
         if (calls[i].most > (size_t)limit)
