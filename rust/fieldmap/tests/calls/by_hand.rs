@@ -1,16 +1,31 @@
-//! Archives written node by node.
+//! Archives written node by node, at any width.
+
+use fieldmap::Width;
 
 /// Bytes to which nodes are added, each after its children.
 #[derive(Default)]
 pub struct Output {
+    width: Width,
     pub bytes: Vec<u8>,
 }
 
 impl Output {
+    pub fn at(width: Width) -> Self {
+        Self {
+            width,
+            bytes: vec![],
+        }
+    }
+
+    /// An offset or a count, of as many bits as the width has.
+    fn number(&mut self, number: i64) {
+        let bytes = usize::from(self.width as u8) / 8;
+        self.bytes.extend(&number.to_le_bytes()[..bytes]);
+    }
+
     fn offset(&mut self, position: Option<usize>) {
-        let field = self.bytes.len() as i32;
-        let offset = position.map_or(1, |position| position as i32 - field);
-        self.bytes.extend(offset.to_le_bytes());
+        let field = self.bytes.len() as i64;
+        self.number(position.map_or(1, |position| position as i64 - field));
     }
 
     fn head(&mut self, kind: u8, slots: &[(u64, u64)]) -> usize {
@@ -26,11 +41,18 @@ impl Output {
         position
     }
 
+    /// Ends the node at a position: its length is a multiple of 8.
+    fn end(&mut self, position: usize) -> usize {
+        let length = (self.bytes.len() - position).next_multiple_of(8);
+        self.bytes.resize(position + length, 0);
+        position
+    }
+
     /// A leaf, with a count of its own. Gives its position, as `inner` does.
     pub fn leaf(&mut self, count: u32, slots: &[(u64, u64)]) -> usize {
         let position = self.head(0, slots);
-        self.bytes.extend(u64::from(count).to_le_bytes());
-        position
+        self.number(count.into());
+        self.end(position)
     }
 
     pub fn inner(&mut self, slots: &[(u64, u64); 5], children: [Option<usize>; 6]) -> usize {
@@ -38,28 +60,32 @@ impl Output {
         for child in children {
             self.offset(child);
         }
-        position
+        self.end(position)
     }
 
     /// The record, which ends the archive.
     pub fn record(mut self, root: usize, count: u32) -> Vec<u8> {
         self.offset(Some(root));
-        self.bytes.extend(count.to_le_bytes());
+        self.number(count.into());
         self.bytes
     }
 }
 
 /// A root leaf with these keys, in the order given; each value is ten times its key.
 pub fn root_leaf(keys: &[u64]) -> Vec<u8> {
+    root_leaf_at(Width::default(), keys)
+}
+
+pub fn root_leaf_at(width: Width, keys: &[u64]) -> Vec<u8> {
     let slots: Vec<_> = keys.iter().map(|&key| (key, 10 * key)).collect();
-    let mut output = Output::default();
+    let mut output = Output::at(width);
     let root = output.leaf(keys.len() as u32, &slots);
     output.record(root, keys.len() as u32)
 }
 
 /// So many nodes nested, each inner one over its first child only; keys ascend.
-pub fn nested(nodes: u32) -> Vec<u8> {
-    let mut output = Output::default();
+pub fn nested_at(width: Width, nodes: u32) -> Vec<u8> {
+    let mut output = Output::at(width);
     let mut node = output.leaf(1, &[(0, 0)]);
     for level in 1..u64::from(nodes) {
         let slots = [1, 2, 3, 4, 5].map(|index| (5 * level + index, level));

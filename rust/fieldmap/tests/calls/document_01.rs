@@ -2,8 +2,8 @@
 
 use std::ops::Bound::{Excluded, Included, Unbounded};
 
-use crate::by_hand::{nested, root_leaf};
-use crate::given::{built, BEFORE};
+use crate::by_hand::{nested_at, root_leaf};
+use crate::given::{built, BEFORE, WIDTHS};
 use fieldmap::Packing::TwosComplement;
 use fieldmap::{Aligned, Entry, Key, Matched, Refusal};
 
@@ -175,7 +175,9 @@ fn leaf_counts() {
 
 #[test]
 fn depth() {
-    let archive = nested(14);
-    assert_eq!(fieldmap::check(&archive), Ok(66));
-    assert_eq!(fieldmap::certify(&archive), Ok(66));
+    for (width, _, _) in WIDTHS {
+        let archive = nested_at(width, 14);
+        assert_eq!(fieldmap::check_at(width, &archive), Ok(66));
+        assert_eq!(fieldmap::certify_at(width, &archive), Ok(66));
+    }
 }

@@ -1,7 +1,7 @@
-//! The refusals, the packings and the limits, against those of `include/fieldmap.h`.
+//! The refusals, the packings, the widths and the limits, against those of `include/fieldmap.h`.
 
 use crate::repository;
-use fieldmap::{NoSuchRefusal, Packing, Refusal};
+use fieldmap::{NoSuchRefusal, Packing, Refusal, Width};
 
 fn header() -> String {
     String::from_utf8(repository::bytes("include/fieldmap.h")).unwrap()
@@ -56,25 +56,37 @@ fn numbers() {
     }
 }
 
-#[test]
-fn packings() {
+/// The names and the numbers of the list that starts at a text are those given.
+fn numbered(start: &str, named: &[(&str, u8)]) {
     let header = header();
-    let (_, rest) = header.split_once("/* The packings").unwrap();
+    let (_, rest) = header.split_once(start).unwrap();
     let (list, _) = rest.split_once("};").unwrap();
     let numbers = between(list, "FIELDMAP_", " = ");
-    let named = [
-        ("TWOS_COMPLEMENT", Packing::TwosComplement),
-        ("PLUS_128", Packing::Plus128),
-    ];
     assert_eq!(numbers.len(), named.len());
-    for ((name, number), (expected, packing)) in numbers.into_iter().zip(named) {
-        assert_eq!(name, expected);
+    for ((name, number), (expected, ours)) in numbers.into_iter().zip(named) {
+        assert_eq!(name, *expected);
         let digits = number.split(|letter: char| !letter.is_ascii_digit());
-        assert_eq!(
-            digits.into_iter().next(),
-            Some(&*(packing as u8).to_string())
-        );
+        assert_eq!(digits.into_iter().next(), Some(&*ours.to_string()));
     }
+}
+
+#[test]
+fn packings() {
+    let named = [
+        ("TWOS_COMPLEMENT", Packing::TwosComplement as u8),
+        ("PLUS_128", Packing::Plus128 as u8),
+    ];
+    numbered("/* The packings", &named);
+}
+
+#[test]
+fn widths() {
+    let named = [
+        ("WIDTH_16", Width::Bits16 as u8),
+        ("WIDTH_32", Width::Bits32 as u8),
+        ("WIDTH_64", Width::Bits64 as u8),
+    ];
+    numbered(" * The widths", &named);
 }
 
 #[test]

@@ -12,3 +12,4 @@ mod open_archives;
 mod owned;
 mod refusals;
 mod repository;
+mod widths;

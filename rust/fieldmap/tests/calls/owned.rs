@@ -4,7 +4,8 @@ use std::collections::BTreeMap;
 use std::ops::Bound::{Excluded, Included};
 
 use crate::by_hand::root_leaf;
-use fieldmap::{archive_of, Archive, Certified, Refusal};
+use crate::given::WIDTHS;
+use fieldmap::{archive_of, archive_of_at, Archive, Certified, Refusal, Width};
 
 /// A map of so many entries.
 fn map(count: u64) -> BTreeMap<u64, u64> {
@@ -27,8 +28,31 @@ fn maps_come_back() {
 }
 
 #[test]
+fn maps_come_back_at_each_width() {
+    for (width, _, _) in WIDTHS {
+        for count in [0, 1, 5, 6, 36, 216, 2_970] {
+            let map = map(count);
+            let bytes = archive_of_at(width, &map).unwrap();
+            let length = fieldmap::build_length_at(width, map.len(), 0);
+            assert_eq!(Ok(bytes.len()), length);
+            let certified = Certified::certify_at(width, &bytes).unwrap();
+            assert_eq!(certified.to_map(), map);
+            let entries: Vec<(u64, u64)> = map.into_iter().collect();
+            assert_eq!(certified.archive().entries(), entries);
+            assert_eq!(certified.entries_in(..), entries);
+        }
+    }
+}
+
+#[test]
 fn too_large_a_map() {
     assert_eq!(archive_of(&map(40_001)), Err(Refusal::TooManyEntries));
+    for (width, _, _) in WIDTHS {
+        let answer = archive_of_at(width, &map(40_001));
+        assert_eq!(answer, Err(Refusal::TooManyEntries));
+    }
+    let answer = archive_of_at(Width::Bits16, &map(2_971));
+    assert_eq!(answer, Err(Refusal::OffsetOverflow));
 }
 
 #[test]
