@@ -69,7 +69,10 @@ static void bytes_of_none(const struct sizes *of)
     EXPECT(fieldmap_certify(width, out, end) == 0);
 }
 
-/* Read by a width above its own an archive with entries is refused, by one below it is one without entries. */
+/*
+ * Read by a width above its own an archive with entries is refused, by one below it is one without entries. In one of 16 bits no record of 64 bits
+ * could stand at a multiple of 8.
+ */
 static void by_another_width(size_t own)
 {
     for (size_t entries = 1; entries <= 1000; entries++) {
@@ -77,9 +80,8 @@ static void by_another_width(size_t own)
         size_t end = (size_t)built(entries, 0);
         for (size_t i = 0; i < 3; i++) {
             width = all[i].width;
-            int64_t answer = fieldmap_certify(width, out, end);
-            EXPECT(i > own || answer == (i == own ? (int64_t)entries : 0));
-            EXPECT(i <= own || answer == -FIELDMAP_INVALID_SUBTREE_POINTER || answer == -FIELDMAP_UNALIGNED_POINTER);
+            int64_t refused = i == own + 2 ? -FIELDMAP_UNALIGNED_POINTER : -FIELDMAP_INVALID_SUBTREE_POINTER;
+            EXPECT(fieldmap_certify(width, out, end) == (i == own ? (int64_t)entries : i < own ? 0 : refused));
         }
     }
 }
