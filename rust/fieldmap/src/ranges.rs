@@ -130,7 +130,7 @@ pub fn column(
     column_at(width, archive, packing, examination, eye, x, keys, values)
 }
 
-/// As [`column`], of an archive of a width.
+/// As [`column`](column()), of an archive of a width.
 ///
 /// # Errors
 ///
