@@ -1,18 +1,25 @@
-//! Generated archives, certified, open and damaged: what is let through, and what rkyv's readers give of it.
+//! Generated archives of the width that rkyv is built for, certified, open and damaged: what is let through, and what rkyv's readers give of it.
 
 mod aligned;
 
 use std::collections::BTreeMap;
 use std::ops::{Bound, ControlFlow, RangeBounds};
 
-use compare::model::{self, crosses};
+use compare::model::{crosses, Layout, LONGEST};
+use compare::rkyv_map;
 use compare::trees::{self, Random};
-use compare::{ours, rkyv_map};
-use fieldmap_rkyv::{accepted, certified, Map, Refused};
+use fieldmap::Width;
+use fieldmap_rkyv::{accepted, certified, Map, Refused, WIDTH};
 use rkyv::rancor::Error;
 use rkyv::rend::u64_le;
 
 type Entries = Vec<(u64, u64)>;
+
+/// The layout of the archives.
+const LAYOUT: Layout = Layout {
+    width: WIDTH as usize / 8,
+    entries: 5,
+};
 
 fn native((key, value): (&u64_le, &u64_le)) -> (u64, u64) {
     (key.to_native(), value.to_native())
@@ -20,10 +27,10 @@ fn native((key, value): (&u64_le, &u64_le)) -> (u64, u64) {
 
 /// The entries of the proved walk.
 fn walk(bytes: &[u8]) -> Entries {
-    let count = ours::check(bytes).unwrap() as usize;
+    let count = fieldmap::check_at(WIDTH, bytes).unwrap();
     let (mut keys, mut values) = (vec![0; count], vec![0; count]);
-    let walked = ours::walk(bytes, &mut keys, &mut values);
-    assert_eq!(walked, Ok((count as u32, count as u32)));
+    let walked = fieldmap::walk_at(WIDTH, bytes, &mut keys, &mut values).unwrap();
+    assert_eq!((walked.written, walked.count), (count, count));
     keys.into_iter().zip(values).collect()
 }
 
@@ -42,8 +49,9 @@ fn holds_accepted(bytes: &[u8], map: &Map, random: &mut Random) -> Entries {
     let keys: Vec<u64> = entries.iter().map(|entry| entry.0).collect();
     for key in trees::sought(&keys, 8, random) {
         let value = map.get(&u64_le::from_native(key));
-        let found = ours::lookup(bytes, key).unwrap();
-        assert_eq!(value.map(|value| value.to_native()), found.map(|it| it.1));
+        let found = fieldmap::lookup_at(WIDTH, bytes, key).unwrap();
+        let found = found.map(|entry| entry.value);
+        assert_eq!(value.map(|value| value.to_native()), found);
     }
     // Of any map a range stays in the bytes and gives no more than the entries.
     let (lower, upper) = trees::bounds(&keys, random);
@@ -107,8 +115,8 @@ fn holds(bytes: &[u8], fault: Option<u8>, random: &mut Random) {
 fn generated_archives() {
     let mut outcomes = BTreeMap::new();
     for seed in 0..6_000 {
-        let bytes = aligned::copy(&trees::archive(seed));
-        let fault = model::certify(&bytes).err();
+        let bytes = aligned::copy(&trees::archive_at(LAYOUT, seed, 1_000));
+        let fault = LAYOUT.certify(&bytes).err();
         holds(&bytes, fault, &mut Random::new(seed));
         *outcomes.entry(fault).or_insert(0) += 1;
     }
@@ -130,7 +138,7 @@ fn generated_archives() {
 /// An archive that is too long, as rkyv would take it.
 #[test]
 fn too_long() {
-    let mut bytes = vec![0; model::LONGEST];
+    let mut bytes = vec![0; LONGEST];
     bytes.extend(rkyv_map::build(&[], &[7], &[9]));
     let bytes = aligned::copy(&bytes);
     assert!(rkyv::access::<Map, Error>(&bytes).is_ok());
@@ -141,7 +149,11 @@ fn too_long() {
 /// What rkyv writes of a `BTreeMap` is certified, and the map is the same.
 #[test]
 fn written_by_rkyv() {
-    for size in [0, 1, 5, 6, 35, 36, 1_000, 40_000] {
+    let most = match WIDTH {
+        Width::Bits16 => 2_970,
+        _ => 40_000,
+    };
+    for size in [0, 1, 5, 6, 35, 36, 1_000, most] {
         let written: BTreeMap<u64, u64> = (0..size).map(|key| (key * key, !key)).collect();
         let bytes = rkyv::to_bytes::<Error>(&written).unwrap();
         let map = certified(&bytes).unwrap();
