@@ -33,7 +33,7 @@
 #[derive(Clone, Copy, Debug, Default, PartialEq, Eq, Hash)]
 #[repr(u8)]
 pub enum Width {
-    /// 16 bits. [`build_at`](crate::build_at()) takes up to 2,970 entries and refuses more by 16.
+    /// 16 bits. [`build_at`](crate::build_at()) takes up to 2,970 entries.
     Bits16 = 16,
     /// 32 bits, as rkyv has at its defaults.
     #[default]
