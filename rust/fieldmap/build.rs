@@ -3,7 +3,8 @@
 //!
 //! Where the library is not there, this only warns: the crate can be checked and documented without it, and a program that uses it does not
 //! link. The same holds of a library without `fieldmap_build_length`, which is of another version and answers otherwise. One of another version
-//! that has this call cannot be told here, since its calls have the same names: it links, and the tests of this crate do not pass.
+//! that has this call cannot be told here, since its calls have the same names: it links, and where it takes other arguments it reads and writes
+//! memory that it must not. The tests of this crate do not pass then.
 
 use std::path::{Path, PathBuf};
 use std::{env, fs};
