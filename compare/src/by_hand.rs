@@ -1,6 +1,6 @@
 //! Archives written node by node, so that they can be other than what a builder writes.
 
-use crate::model::{Layout, COMMON, ENTRIES, INNER, KEYS, LEAF};
+use crate::model::{Layout, ENTRIES, INNER, KEYS, LEAF, OWN};
 
 /// A key and its value.
 pub type Slot = (u64, u64);
@@ -23,10 +23,10 @@ impl Layout {
     }
 
     /// Makes a leaf of a leaf's size, which may hold anything where a leaf has nothing to say.
-    pub fn put_leaf(self, node: &mut [u8], count: u32, slots: &[Slot]) {
+    pub fn put_leaf(self, node: &mut [u8], count: u64, slots: &[Slot]) {
         node[0] = 0;
         self.put_slots(node, slots);
-        self.put(node, self.head(), count.into());
+        self.put(node, self.head(), count);
     }
 
     /// Makes an inner node of an inner node's size for a position, with the positions of its children.
@@ -54,7 +54,7 @@ impl Layout {
     }
 }
 
-/// An archive of the common layout in the making; every byte that has nothing to say is 0.
+/// An archive of rkyv's layout here in the making; every byte that has nothing to say is 0.
 #[derive(Default)]
 pub struct Output {
     pub bytes: Vec<u8>,
@@ -62,16 +62,16 @@ pub struct Output {
 
 impl Output {
     /// Adds a leaf with a count of its own, and gives its position.
-    pub fn leaf_counting(&mut self, count: u32, slots: &[Slot]) -> usize {
+    pub fn leaf_counting(&mut self, count: u64, slots: &[Slot]) -> usize {
         let position = self.bytes.len();
         let mut node = [0; LEAF];
-        COMMON.put_leaf(&mut node, count, slots);
+        OWN.put_leaf(&mut node, count, slots);
         self.bytes.extend(node);
         position
     }
 
     pub fn leaf(&mut self, slots: &[Slot]) -> usize {
-        self.leaf_counting(slots.len() as u32, slots)
+        self.leaf_counting(slots.len() as u64, slots)
     }
 
     pub fn inner(
@@ -81,14 +81,14 @@ impl Output {
     ) -> usize {
         let position = self.bytes.len();
         let mut node = [0; INNER];
-        COMMON.put_inner(&mut node, position, &slots, &children);
+        OWN.put_inner(&mut node, position, &slots, &children);
         self.bytes.extend(node);
         position
     }
 
     /// Ends the archive.
-    pub fn record(mut self, root: usize, count: u32) -> Vec<u8> {
-        let record = COMMON.record_at(self.bytes.len(), root, count.into());
+    pub fn record(mut self, root: usize, count: u64) -> Vec<u8> {
+        let record = OWN.record_at(self.bytes.len(), root, count);
         self.bytes.extend(record);
         self.bytes
     }

@@ -1,8 +1,8 @@
 //! Document 01's text without rkyv: the check, the list of an accepted archive, certification and ranges, read off the bytes; what refuses
 //! a build and an alignment step; key packing and column queries, also by document 02's second packing.
 //!
-//! What is read off the bytes is read at any layout (`Layout`). The functions and sizes without one are those of
-//! document 01's own, `COMMON`.
+//! What is read off the bytes is read at any layout (`Layout`). The functions and sizes without one are those of the
+//! layout that rkyv is built for here, `OWN`.
 //!
 //! rkyv has no counterpart to refusals 1, 8 to 14, 17 and 18 nor to key packing, and answers crossed ranges otherwise;
 //! there this module is the reference. Where rkyv has one, the program `compare` holds this module to it, and the
@@ -14,7 +14,7 @@ mod ranges;
 mod tree;
 
 pub use keys::{pack, seen, threshold, unpack, KeyFields, Packing, PACKINGS};
-pub use layout::{Layout, COMMON, KEYS};
+pub use layout::{Layout, COMMON, KEYS, OWN};
 pub use ranges::{column, crosses, in_column, range, Column};
 pub use tree::{Entry, Node};
 
@@ -26,16 +26,16 @@ pub const LONGEST_HEADER: u64 = 4_096;
 /// "Depth starts at 16".
 const DEPTH: u32 = 16;
 
-/// Sizes of the common layout.
-pub const ENTRIES: usize = COMMON.entries;
-pub const NODE: usize = COMMON.head();
-pub const LEAF: usize = COMMON.leaf();
-pub const INNER: usize = COMMON.inner();
-pub const RECORD: usize = COMMON.record();
+/// Sizes of rkyv's layout here.
+pub const ENTRIES: usize = OWN.entries;
+pub const NODE: usize = OWN.head();
+pub const LEAF: usize = OWN.leaf();
+pub const INNER: usize = OWN.inner();
+pub const RECORD: usize = OWN.record();
 
 /// The offset field of a child: 0 to 4 are the lesser ones, 5 is the greater one.
 pub fn child(node: usize, index: usize) -> usize {
-    COMMON.child(node, index)
+    OWN.child(node, index)
 }
 
 /// Refusal 1.
@@ -45,27 +45,33 @@ pub fn too_long(bytes: &[u8]) -> bool {
 
 /// The check, 1 to 7, and the recorded count.
 pub fn check(bytes: &[u8]) -> Result<u32, u8> {
-    COMMON.check(bytes).map(|count| count as u32)
+    OWN.check(bytes).map(narrow)
 }
 
 /// The reachable nodes of an accepted archive, each before its children.
 pub fn nodes(bytes: &[u8]) -> Vec<Node> {
-    COMMON.nodes(bytes)
+    OWN.nodes(bytes)
 }
 
 /// The list of an accepted archive.
 pub fn list(bytes: &[u8]) -> Vec<Entry> {
-    COMMON.list(bytes)
+    OWN.list(bytes)
 }
 
 /// What keeps an accepted archive from being certified: 8, else 9, else nothing.
 pub fn fault(bytes: &[u8]) -> Option<u8> {
-    COMMON.fault(bytes)
+    OWN.fault(bytes)
 }
 
 /// Certification, 1 to 9, and the recorded count.
 pub fn certify(bytes: &[u8]) -> Result<u32, u8> {
-    COMMON.certify(bytes).map(|count| count as u32)
+    OWN.certify(bytes).map(narrow)
+}
+
+/// A number that an answer has, as the comparison has it. What 32 bits do not hold becomes the largest that they hold,
+/// which is no right answer.
+pub fn narrow(number: u64) -> u32 {
+    number.try_into().unwrap_or(u32::MAX)
 }
 
 /// What stands before a build of these lists, behind a header of this length, and in an output of this length, which the archive and what

@@ -1,61 +1,92 @@
-//! The proved code: the calls of the static library, through the crate `fieldmap`. A refusal is its number.
+//! The proved code: the calls of the static library, through the crate `fieldmap`, at the width of the pointers that rkyv is built for. A
+//! refusal is its number.
 
 use std::ops::Bound;
 
-use fieldmap::Refusal;
+use fieldmap::{Refusal, Width};
 
-use crate::model::{Column, KeyFields, Packing};
-use crate::rkyv_map::Found;
+use crate::model::{narrow, Column, KeyFields, Packing};
+use crate::rkyv_map::{self, Found};
+
+/// The width that each call is given.
+pub const WIDTH: Width = match rkyv_map::WIDTH {
+    2 => Width::Bits16,
+    4 => Width::Bits32,
+    _ => Width::Bits64,
+};
+
+/// A number of an answer, as the comparison has it.
+fn number(number: usize) -> u32 {
+    narrow(number as u64)
+}
 
 /// An answer with numbers as the comparison has them.
 fn answer(answer: Result<usize, Refusal>) -> Result<u32, u8> {
-    answer.map(|number| number as u32).map_err(Refusal::number)
+    answer.map(number).map_err(Refusal::number)
 }
 
 /// The recorded count, or the refusal.
 pub fn check(archive: &[u8]) -> Result<u32, u8> {
-    answer(fieldmap::check(archive))
+    answer(fieldmap::check_at(WIDTH, archive))
 }
 
 /// The recorded count, or the refusal.
 pub fn certify(archive: &[u8]) -> Result<u32, u8> {
-    answer(fieldmap::certify(archive))
+    answer(fieldmap::certify_at(WIDTH, archive))
 }
 
 /// The number of entries written and the recorded count, or the refusal.
 pub fn walk(archive: &[u8], keys: &mut [u64], values: &mut [u64]) -> Result<(u32, u32), u8> {
-    fieldmap::walk(archive, keys, values)
-        .map(|walked| (walked.written as u32, walked.count as u32))
+    fieldmap::walk_at(WIDTH, archive, keys, values)
+        .map(|walked| (number(walked.written), number(walked.count)))
         .map_err(Refusal::number)
 }
 
 /// The entry with a key, nothing, or the refusal.
 pub fn lookup(archive: &[u8], key: u64) -> Result<Option<Found>, u8> {
-    fieldmap::lookup(archive, key)
+    fieldmap::lookup_at(WIDTH, archive, key)
         .map(|found| found.map(|entry| (entry.key, entry.value, entry.position)))
         .map_err(Refusal::number)
 }
 
 extern "C" {
-    fn fieldmap_lookup_bytes(archive: *const u8, length: usize, key: u64, start: *mut u64) -> i64;
+    fn fieldmap_lookup_bytes(
+        width: u8,
+        archive: *const u8,
+        length: usize,
+        key: u64,
+        start: *mut u64,
+    ) -> i64;
+}
+
+/// The width as a call from C names it. Every number but 16 and 64 names 32.
+fn named(any: u64) -> u8 {
+    match (WIDTH, any as u8) {
+        (Width::Bits32, 16 | 64) | (Width::Bits16 | Width::Bits64, _) => WIDTH as u8,
+        (Width::Bits32, other) => other,
+    }
 }
 
 /// The bytes of its value, as a part of the archive, none where there is no such entry, or the refusal, for which the crate gives no bytes.
 pub fn lookup_bytes(archive: &[u8], key: u64) -> Result<&[u8], u8> {
     let mut start = 0;
     // SAFETY: the pointers are a slice's, with its length, and a local's; the call reads and writes nothing else and keeps neither.
-    let answer = unsafe { fieldmap_lookup_bytes(archive.as_ptr(), archive.len(), key, &mut start) };
+    let answer = unsafe {
+        let (bytes, length) = (archive.as_ptr(), archive.len());
+        fieldmap_lookup_bytes(named(key), bytes, length, key, &mut start)
+    };
     let part = match usize::try_from(answer) {
         Ok(length) => Ok(&archive[start as usize..][..length]),
         Err(_) => Err(-answer as u8),
     };
-    assert_eq!(fieldmap::lookup_bytes(archive, key), part.unwrap_or(&[]));
+    let of_crate = fieldmap::lookup_bytes_at(WIDTH, archive, key);
+    assert_eq!(of_crate, part.unwrap_or(&[]));
     part
 }
 
 /// The number of keys found after one check, their values each in its place, or the refusal.
 pub fn lookup_many(archive: &[u8], keys: &[u64], values: &mut [u64]) -> Result<u32, u8> {
-    answer(fieldmap::lookup_many(archive, keys, values))
+    answer(fieldmap::lookup_many_at(WIDTH, archive, keys, values))
 }
 
 /// The number of entries written and the number matching, in an archive that certify accepts, or the refusal.
@@ -66,8 +97,8 @@ pub fn range(
     keys: &mut [u64],
     values: &mut [u64],
 ) -> Result<(u32, u64), u8> {
-    fieldmap::range(archive, (lower, upper), keys, values)
-        .map(|matched| (matched.written as u32, matched.matching as u64))
+    fieldmap::range_at(WIDTH, archive, (lower, upper), keys, values)
+        .map(|matched| (number(matched.written), matched.matching as u64))
         .map_err(Refusal::number)
 }
 
@@ -80,7 +111,8 @@ pub fn column(
 ) -> Result<(u32, u64), u8> {
     let packing = packing(column.packing);
     let x = column.a..=column.b;
-    fieldmap::column(
+    fieldmap::column_at(
+        WIDTH,
         archive,
         packing,
         column.examination,
@@ -89,7 +121,7 @@ pub fn column(
         keys,
         values,
     )
-    .map(|matched| (matched.written as u32, matched.matching as u64))
+    .map(|matched| (number(matched.written), matched.matching as u64))
     .map_err(Refusal::number)
 }
 
@@ -102,12 +134,12 @@ fn packing(packing: Packing) -> fieldmap::Packing {
 
 /// The archive's end in the output, behind a header of so many bytes that stay, or the refusal.
 pub fn build(output: &mut [u8], header: usize, keys: &[u64], values: &[u64]) -> Result<u32, u8> {
-    answer(fieldmap::build(output, header, keys, values))
+    answer(fieldmap::build_at(WIDTH, output, header, keys, values))
 }
 
 /// The end that a build of so many entries behind a header will answer, or the refusal.
 pub fn build_length(entries: usize, header: usize) -> Result<u32, u8> {
-    answer(fieldmap::build_length(entries, header))
+    answer(fieldmap::build_length_at(WIDTH, entries, header))
 }
 
 /// The offset that a field at one position stores to lead to another, or the refusal.

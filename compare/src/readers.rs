@@ -9,7 +9,7 @@ use std::fmt::Debug;
 use std::ops::Bound;
 
 use crate::counts::LeftOut;
-use crate::model::{self, Entry, Layout, COMMON};
+use crate::model::{self, narrow, Entry, Layout, OWN};
 use crate::rkyv_map::{Accepted, Archive, WIDTH};
 use crate::trees::{self, Random};
 
@@ -48,7 +48,7 @@ pub fn compare(
         .collect();
     if let Ok(accepted) = &checked {
         count_left_out(bytes, &ranges, left_out);
-        readers(COMMON, bytes, accepted, &sought, &ranges)?;
+        readers(OWN, bytes, accepted, &sought, &ranges)?;
     }
     #[cfg(feature = "ours")]
     {
@@ -73,7 +73,7 @@ pub fn compare_with_rkyv<const N: usize>(
         entries: N,
     };
     let (bytes, checked) = (archive.bytes(), archive.check_of::<N>());
-    let model = layout.check(bytes).map(|count| count as u32);
+    let model = layout.check(bytes).map(narrow);
     same("check", ("rkyv", count(&checked)), ("model", model))?;
     match &checked {
         Ok(accepted) => readers(layout, bytes, accepted, sought, ranges),
@@ -165,4 +165,16 @@ pub fn same<T: Debug + PartialEq>(
     let (one, first) = one;
     let (other, second) = other;
     Err(format!("{what}: {one} {first:?}, {other} {second:?}"))
+}
+
+/// The first place where bytes of one length differ, if there is one.
+pub fn same_bytes(what: &str, right: &[u8], ours: &[u8]) -> Result<(), String> {
+    if right == ours {
+        return Ok(());
+    }
+    let mut pairs = right.iter().zip(ours);
+    let place = pairs.position(|(right, ours)| right != ours);
+    let place = place.expect("two of one length");
+    let what = format!("{what}, byte {place}");
+    same(&what, ("right", right[place]), ("ours", ours[place]))
 }

@@ -1,19 +1,12 @@
-//! The oracle itself: rkyv and the model give what document 01 says.
+//! The oracle itself: rkyv and the model give what document 01 says, whose pointers have 32 bits.
+#![cfg(not(any(feature = "pointer_width_16", feature = "pointer_width_64")))]
 
 use std::ops::Bound;
 
-use compare::by_hand::Output;
 use compare::model::{KeyFields, Packing::TwosComplement};
 use compare::questions::builds::checksum;
 use compare::rkyv_map::{build, by_key, Accepted, Archive};
-use compare::{cases, model, rkyv_parts, trees};
-
-/// rkyv's check, as a number.
-fn check(bytes: &[u8]) -> Result<u32, u8> {
-    Archive::copy(bytes)
-        .check()
-        .map(|accepted| accepted.count())
-}
+use compare::{cases, model, rkyv_parts};
 
 /// What rkyv builds of the keys 1 to `count`, each its own value, behind `header` bytes.
 fn built(count: u64, header: usize) -> Vec<u8> {
@@ -136,42 +129,6 @@ fn sizes() {
     assert_eq!(built(1, 5).len(), 112);
 }
 
-#[test]
-fn named_archives() {
-    for case in cases::all() {
-        let name = case.name;
-        assert_eq!(check(&case.archive), case.check, "check of {name}, rkyv");
-        assert_eq!(model::check(&case.archive), case.check, "check of {name}");
-        assert_eq!(
-            model::certify(&case.archive),
-            case.certify,
-            "certify of {name}"
-        );
-    }
-}
-
-#[test]
-fn leaf_counts() {
-    for count in 0..=7 {
-        let mut output = Output::default();
-        let root = output.leaf_counting(count, &[(1, 1), (2, 2), (3, 3), (4, 4), (5, 5)]);
-        let archive = output.record(root, count);
-        let expected = if count <= 5 { Ok(count) } else { Err(6) };
-        assert_eq!(check(&archive), expected);
-        assert_eq!(model::check(&archive), expected);
-    }
-}
-
-/// A count of 0 is accepted without a look at the root, and nothing is found.
-#[test]
-fn count_0() {
-    let archive = Archive::copy(&Output::default().record(1 << 30, 0));
-    let accepted = archive.check().unwrap();
-    assert_eq!(accepted.visit(), []);
-    assert_eq!(accepted.get(0), None);
-    assert_eq!(accepted.range(Bound::Unbounded, Bound::Unbounded), []);
-}
-
 /// The optician's printouts: on an archive that the check accepts, the walk shows an entry that the lookup does not find.
 #[test]
 fn walked_but_not_found() {
@@ -183,52 +140,6 @@ fn walked_but_not_found() {
     assert_eq!(walked, keys);
     assert!(keys.iter().any(|&key| accepted.get(key).is_none()));
     assert_eq!(model::certify(archive.bytes()), Err(9));
-}
-
-/// Every archive that rkyv builds of an ascending list is certified and has the list.
-#[test]
-fn built_archives() {
-    for count in (0..300).chain([7_775, 7_776, 40_000]) {
-        for header in [0, 1, 4, 5, 8] {
-            let bytes = built(count, header);
-            assert!(bytes.starts_with(&vec![0xff; header]));
-            assert_eq!(model::certify(&bytes), Ok(count as u32));
-            let archive = Archive::copy(&bytes);
-            let accepted = archive.check().unwrap();
-            let entries: Vec<(u64, u64)> = (1..=count).map(|key| (key, key)).collect();
-            assert_eq!(accepted.visit(), entries);
-            assert_eq!(accepted.range(Bound::Unbounded, Bound::Unbounded), entries);
-        }
-    }
-}
-
-/// Every archive that differs in one byte from case *6 or *7: rkyv and the model agree.
-#[test]
-fn one_byte_changed() {
-    for base in [built(1, 0), built(6, 0)] {
-        let mut answers = [false; 8];
-        for position in 0..base.len() {
-            for byte in 0..=255 {
-                let mut bytes = base.clone();
-                bytes[position] = byte;
-                let checked = check(&bytes);
-                assert_eq!(checked, model::check(&bytes), "{byte} at {position}");
-                answers[checked.map_or_else(usize::from, |_| 0)] = true;
-                if checked.is_ok() {
-                    let list = model::list(&bytes);
-                    let list: Vec<_> = list.iter().map(|entry| (entry.key, entry.value)).collect();
-                    let archive = Archive::copy(&bytes);
-                    assert_eq!(
-                        archive.check().unwrap().visit(),
-                        list,
-                        "{byte} at {position}"
-                    );
-                }
-            }
-        }
-        // All but the depth: accepted, 2, 3, 4, 6 and 7.
-        assert_eq!(answers, [true, false, true, true, true, false, true, true]);
-    }
 }
 
 /// What stands in the two ends of the longest list's archive.
@@ -275,20 +186,4 @@ fn checksums() {
         other[position] ^= 1;
         assert_ne!(checksum(&other), checksum(&archive), "byte {position}");
     }
-}
-
-/// Among the generated archives are some at the limit and some above it, trees among them.
-#[test]
-fn long_archives() {
-    let mut lengths = [0, 0];
-    let mut accepted = 0;
-    for seed in (0..40).map(|index| 4_096 * index + 4_095) {
-        let archive = trees::archive(seed);
-        assert!(archive.len() >= 1_048_576);
-        lengths[usize::from(model::too_long(&archive))] += 1;
-        assert_eq!(model::check(&archive) == Err(1), model::too_long(&archive));
-        accepted += u32::from(check(&archive).is_ok());
-    }
-    assert!(lengths.iter().all(|&number| number > 0));
-    assert!(accepted > 0);
 }

@@ -1,9 +1,11 @@
-//! An archive is what `rkyv::to_bytes` writes of a `BTreeMap<u64, u64>`, with the map as the root, and `rkyv::access` reads what `build` writes.
+//! An archive is what `rkyv::to_bytes` writes of a `BTreeMap<u64, u64>`, with the map as the root, and `rkyv::access` reads what `build` writes,
+//! with pointers of the bits that rkyv is built for.
 #![cfg(feature = "ours")]
 
 use std::collections::BTreeMap;
 
 use compare::ours;
+use compare::rkyv_map::BITS;
 use compare::trees::Random;
 use rkyv::collections::btree_map::ArchivedBTreeMap;
 use rkyv::rancor::Error;
@@ -12,9 +14,11 @@ use rkyv::util::AlignedVec;
 
 /// Every number of entries to 300, and the ends of what a tree of each height holds and of what a build takes.
 fn sizes() -> impl Iterator<Item = usize> {
-    (0..=300).chain([
-        1_000, 1_294, 1_295, 1_296, 7_774, 7_775, 7_776, 39_999, 40_000,
-    ])
+    let most = if BITS == 16 { 2_970 } else { 40_000 };
+    (0..=300)
+        .chain([1_000, 1_294, 1_295, 1_296, 7_774, 7_775, 7_776])
+        .filter(move |size| *size < most)
+        .chain([most - 1, most])
 }
 
 /// A map of so many random keys.

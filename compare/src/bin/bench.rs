@@ -1,5 +1,5 @@
 //! Times rkyv's calls and, with the feature `ours`, those of the proved code: one process, one run, warm buffers, the best of many
-//! repetitions. Without the feature the lines have rkyv's time only.
+//! repetitions. Without the feature the lines have rkyv's time only. Both sides have the pointers that rkyv is built for.
 //!
 //! Both sides give the same answer in every line but one, and do this for it:
 //!
@@ -27,14 +27,16 @@ use std::ops::Bound;
 use compare::cases::examination;
 use compare::measure::theirs::{accepted, certified, look_up, range, refused, visit};
 use compare::measure::{best, heading, row, Lent};
-use compare::model::{self, COMMON, ENTRIES, NODE};
+use compare::model::{self, ENTRIES, NODE, OWN};
 #[cfg(feature = "ours")]
 use compare::ours;
-use compare::rkyv_map::{self, Archive};
+use compare::rkyv_map::{self, Archive, BITS};
 use compare::trees::Random;
 use rkyv::ser::allocator::Arena;
 use rkyv::util::AlignedVec;
 
+/// The entries of the largest archive: offsets of 16 bits are too short from 2,971 entries on.
+const MOST: u64 = if BITS == 16 { 2_000 } else { 40_000 };
 /// Keys looked up in one go, and the entries in a narrow range and in a wider one.
 const LOOKUPS: usize = 1_000;
 const NARROW: usize = 1;
@@ -60,8 +62,9 @@ const NOT_THERE: Option<fn(&mut Lent) -> usize> = None;
 
 fn main() {
     let refused_only = env::args().nth(1).is_some_and(|word| word == "refused");
+    println!("pointers of {BITS} bits");
     heading();
-    for entries in [76, 1_000, 40_000] {
+    for entries in [76, 1_000, MOST] {
         let (keys, values) = examination(entries);
         let archive = &Archive::copy(&rkyv_map::build(&[], &keys, &values));
         if !refused_only {
@@ -148,7 +151,7 @@ fn measure_refused(archive: &Archive) {
     let mut leaves = nodes.iter().filter(|node| !node.inner);
     let first = leaves.next().expect("a leaf").position + NODE;
     let last = leaves.next_back().expect("another leaf").position + NODE;
-    let recorded = bytes.len() - COMMON.width;
+    let recorded = bytes.len() - OWN.width;
     let above = ENTRIES as u64 + 1;
     for (call, field, count, number) in [
         ("refused at the first leaf", first, above, 6),
@@ -156,7 +159,7 @@ fn measure_refused(archive: &Archive) {
         ("refused by the count", recorded, u64::from(entries) + 1, 7),
     ] {
         let mut bytes = bytes.to_vec();
-        COMMON.put(&mut bytes, field, count);
+        OWN.put(&mut bytes, field, count);
         let archive = &Archive::copy(&bytes);
         assert_eq!(archive.check().map(|_| ()), Err(number), "{call}");
         let check =

@@ -1,5 +1,7 @@
 //! The layout of an archive as a value: where the parts of its nodes stand, and the numbers in its fields.
 
+use crate::rkyv_map::WIDTH;
+
 /// How many bytes an offset or a count has, 2, 4 or 8, and how many entries a node has.
 #[derive(Clone, Copy, Debug, PartialEq, Eq)]
 pub struct Layout {
@@ -10,6 +12,12 @@ pub struct Layout {
 /// Document 01's own: "32-bit pointers, E = 5 entries a node".
 pub const COMMON: Layout = Layout {
     width: 4,
+    entries: 5,
+};
+
+/// The layout of rkyv's map as it is by default: 5 entries a node, and pointers of the bits that rkyv is built for here.
+pub const OWN: Layout = Layout {
+    width: WIDTH,
     entries: 5,
 };
 

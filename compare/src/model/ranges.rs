@@ -3,7 +3,7 @@
 use std::ops::Bound;
 
 use super::keys::{key, unpack, Packing};
-use super::layout::{Layout, COMMON};
+use super::layout::{Layout, OWN};
 use super::Entry;
 
 /// "they cross if the lower is above the upper, or both are equal and excluded"
@@ -35,9 +35,9 @@ impl Layout {
     }
 }
 
-/// The entries of an accepted archive of the common layout that meet both bounds, in order.
+/// The entries of an accepted archive of rkyv's layout here that meet both bounds, in order.
 pub fn range(bytes: &[u8], lower: Bound<u64>, upper: Bound<u64>) -> Vec<Entry> {
-    COMMON.range(bytes, lower, upper)
+    OWN.range(bytes, lower, upper)
 }
 
 /// A column query: "takes x from a to b".

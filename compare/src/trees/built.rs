@@ -1,11 +1,11 @@
-//! Archives as the builder writes them: by rkyv at the common layout, and at others by a second way, which needs no
+//! Archives as the builder writes them: by rkyv at its own layout here, and at others by a second way, which needs no
 //! rkyv of that layout. Both give the same bytes.
 
 use super::grown::Tree;
 use super::keys::{Keys, Style};
 use super::Random;
 use crate::by_hand::Slot;
-use crate::model::{Layout, COMMON};
+use crate::model::{Layout, OWN};
 use crate::rkyv_map;
 
 /// What a builder makes of an ascending list, behind a header.
@@ -23,16 +23,18 @@ pub fn built(layout: Layout, random: &mut Random) -> Vec<u8> {
         *last = u64::MAX;
     }
     let values: Vec<u64> = (0..count).map(|_| random.number()).collect();
-    match layout == COMMON && rkyv_map::WIDTH == COMMON.width {
+    match layout == OWN {
         true => rkyv_map::build(&header, &keys, &values),
         false => complete(layout, &header, &keys, &values),
     }
 }
 
-/// Fewer entries than this are built. Offsets of 16 bits reach over no more than 32,768 bytes.
+/// Fewer entries than this are built. Offsets of 16 bits are too short from 2,971 entries on with 5 a node, and with
+/// other numbers of entries a node from 2,029 on at the earliest.
 fn most(layout: Layout) -> usize {
-    match layout.width {
-        2 => 1_200,
+    match (layout.width, layout.entries) {
+        (2, 5) => 2_971,
+        (2, _) => 2_029,
         _ => 5_000,
     }
 }
@@ -104,7 +106,7 @@ fn write(
     match tree {
         Tree::Leaf(count) => {
             bytes.resize(position + layout.leaf(), 0);
-            layout.put_leaf(&mut bytes[position..], *count, &own);
+            layout.put_leaf(&mut bytes[position..], (*count).into(), &own);
         }
         Tree::Inner(_) => {
             bytes.resize(position + layout.inner(), 0);

@@ -12,7 +12,7 @@ pub fn edges(layout: Layout) -> Vec<Vec<u8>> {
     for missing in (0..=16).step_by(layout.width) {
         archives.extend([0, 1].map(|kind| cut(layout, kind, missing)));
     }
-    let full = layout.entries as u32;
+    let full = layout.entries as u64;
     for depth in [1, 2, 13, 14, 15] {
         archives.extend([0, 1, full, full + 1].map(|count| nested(layout, depth, count)));
     }
@@ -37,7 +37,7 @@ fn cut(layout: Layout, kind: u8, missing: usize) -> Vec<u8> {
     let mut bytes = vec![0; size];
     let slots: Vec<(u64, u64)> = (0..layout.entries as u64).map(|key| (key, key)).collect();
     match kind {
-        0 => layout.put_leaf(&mut bytes, layout.entries as u32, &slots),
+        0 => layout.put_leaf(&mut bytes, layout.entries as u64, &slots),
         _ => layout.put_inner(&mut bytes, 0, &slots, &vec![None; layout.entries + 1]),
     }
     bytes.truncate(size - missing);
@@ -47,7 +47,7 @@ fn cut(layout: Layout, kind: u8, missing: usize) -> Vec<u8> {
 
 /// A leaf with a count under inner nodes, so that `depth` nodes are nested; each inner node has its first child only.
 /// Keys ascend.
-fn nested(layout: Layout, depth: usize, count: u32) -> Vec<u8> {
+fn nested(layout: Layout, depth: usize, count: u64) -> Vec<u8> {
     let entries = layout.entries as u64;
     let slots = |level: u64| -> Vec<(u64, u64)> {
         (0..entries)
@@ -66,7 +66,7 @@ fn nested(layout: Layout, depth: usize, count: u32) -> Vec<u8> {
         layout.put_inner(node, position, &slots(level), &children);
         root = position;
     }
-    let all = entries * (depth as u64 - 1) + u64::from(count);
+    let all = entries * (depth as u64 - 1) + count;
     bytes.extend(layout.record_at(bytes.len(), root, all));
     bytes
 }
