@@ -1,7 +1,9 @@
-//! How often there was what: the answers by kind, and what was not compared with rkyv.
+//! How often there was what: the answers by kind, differences, and what was not compared with rkyv.
 
 use std::fmt;
 use std::ops::RangeInclusive;
+
+use crate::rkyv_map::Archive;
 
 /// On a long run each refusal must come up this often.
 pub const LEAST: u64 = 100;
@@ -31,6 +33,38 @@ impl Counts {
             let count = self.0[number];
             println!("refused by {number:2}                       {count:9}");
         }
+    }
+}
+
+/// The archives of a run on which answers differ.
+#[derive(Default)]
+pub struct Differences {
+    number: u64,
+    /// The smallest of them, and the first difference on it.
+    smallest: Option<(Archive, String)>,
+}
+
+impl Differences {
+    pub fn add(&mut self, archive: Archive, difference: String) {
+        self.number += 1;
+        let length = archive.bytes().len();
+        let smallest = self.smallest.as_ref();
+        if smallest.is_none_or(|(least, _)| length < least.bytes().len()) {
+            self.smallest = Some((archive, difference));
+        }
+    }
+
+    /// Prints how many there were, and the smallest in hex, and tells whether there was none.
+    pub fn print(&self) -> bool {
+        println!("differing                           {:9}", self.number);
+        if let Some((archive, difference)) = &self.smallest {
+            println!("{difference}");
+            for byte in archive.bytes() {
+                print!("{byte:02x}");
+            }
+            println!();
+        }
+        self.number == 0
     }
 }
 

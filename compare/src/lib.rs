@@ -1,5 +1,6 @@
 //! rkyv's archived B-tree map as the oracle for the archived field map, and a second reading of document 01 beside it.
 
+pub mod building;
 pub mod by_hand;
 pub mod cases;
 pub mod columns;

@@ -16,7 +16,7 @@ use std::env;
 use std::ops::Range;
 use std::process::ExitCode;
 
-use compare::counts::{Counts, LEAST};
+use compare::counts::{Counts, Differences, LEAST};
 use compare::model::{Layout, COMMON};
 use compare::rkyv_map::{Archive, WIDTH};
 use compare::trees::{self, Random};
@@ -71,9 +71,7 @@ struct Run {
     counts: Counts,
     compared: Compared,
     accepted: u64,
-    differing: u64,
-    /// The smallest archive on which answers differ, and the first difference.
-    smallest: Option<(Archive, String)>,
+    differences: Differences,
 }
 
 impl Run {
@@ -85,13 +83,13 @@ impl Run {
             let archive = trees::archive_at(layout, seed, LONG);
             self.add(layout, &archive, &format!("seed {seed}"), !seed);
         }
-        self.print();
+        let same = self.print();
         let rare = self.counts.rare(1..=9);
         let few = seeds.end - seeds.start >= ENOUGH && !rare.is_empty();
         if few {
             println!("less than {LEAST} times: {rare:?}");
         }
-        self.differing == 0 && !few
+        same && !few
     }
 
     /// Compares one archive; the keys and bounds that it is asked for are those of a seed.
@@ -101,16 +99,13 @@ impl Run {
         self.accepted += u64::from(layout.check(bytes).is_ok());
         let random = &mut Random::new(seed);
         if let Err(difference) = readers::compare(layout, &archive, random, &mut self.compared) {
-            self.differing += 1;
-            let least = self.smallest.as_ref();
-            if least.is_none_or(|(least, _)| bytes.len() < least.bytes().len()) {
-                let text = format!("{name}, {layout:?}: {difference}");
-                self.smallest = Some((archive, text));
-            }
+            let text = format!("{name}, {layout:?}: {difference}");
+            self.differences.add(archive, text);
         }
     }
 
-    fn print(&self) {
+    /// Prints what there was, and tells whether no answers differ.
+    fn print(&self) -> bool {
         let (archives, certified) = self.counts.all();
         println!("archives                            {archives:9}");
         println!("accepted                            {:9}", self.accepted);
@@ -124,17 +119,10 @@ impl Run {
             ("ranges of certified archives", compared.ranges),
             ("ranges that are refused", compared.refused_ranges),
             ("archives that rkyv answers about", compared.with_rkyv),
-            ("differing", self.differing),
         ] {
             println!("{name:36}{count:9}");
         }
-        if let Some((archive, difference)) = &self.smallest {
-            println!("{difference}");
-            for byte in archive.bytes() {
-                print!("{byte:02x}");
-            }
-            println!();
-        }
+        self.differences.print()
     }
 }
 
@@ -150,7 +138,7 @@ fn same_bytes(layout: Layout) -> bool {
         let (keys, values) = compare::cases::examination(count as u64);
         let header = &vec![7; count % 18];
         let ours = trees::complete(layout, header, &keys, &values);
-        differing += u32::from(ours != build(header, &keys, &values));
+        differing += u32::from(build(header, &keys, &values) != Some(ours));
     }
     println!("archives as rkyv builds them        {:9}", BUILT + 1);
     if differing > 0 {
