@@ -1,8 +1,11 @@
-//! The programs `compare`, `answers`, `make_examples` and, with the feature `ours`, `builds` and `guarded`.
+//! The programs `compare`, `answers` and, with the feature `ours`, `builds` and `guarded`, at the width of pointers that rkyv is built for.
 
-use std::path::{Path, PathBuf};
+use std::path::Path;
 use std::process::{Command, Output};
+use std::sync::atomic::{AtomicU32, Ordering};
 use std::{env, fs};
+
+use compare::rkyv_map::BITS;
 
 fn run(program: &str, arguments: &[&str]) -> Output {
     Command::new(program)
@@ -25,7 +28,7 @@ fn generated_archives() {
     }
 }
 
-/// What is built shows no difference: 24 larger and smaller numbers of entries, each behind 20 headers.
+/// What is built shows no difference: 20 smaller numbers of entries, and 4 larger ones where offsets fit, each behind 20 headers.
 #[cfg(feature = "ours")]
 #[test]
 fn built_archives() {
@@ -36,7 +39,8 @@ fn built_archives() {
         .lines()
         .find(|line| line.starts_with("archives compared"));
     let built = built.unwrap().split_whitespace().last();
-    assert_eq!(built, Some("480"), "{text}");
+    let right = if BITS == 16 { "400" } else { "480" };
+    assert_eq!(built, Some(right), "{text}");
 }
 
 /// No call reads or writes outside what it is lent, beside pages that fault and in allocations.
@@ -50,32 +54,43 @@ fn guarded_archives() {
     }
 }
 
-/// The sample for the gate is small, ends as it should, and has every refusal and every kind of line.
-#[test]
-fn sample() {
-    let folder = env::temp_dir().join(format!("compare-{}", std::process::id()));
+/// What `answers` writes with these arguments behind those of its files: the input without its end, and the text without its last line. With
+/// pointers of 32 bits it writes the files anew, else it adds to files that have no questions.
+fn answers(arguments: &[&str]) -> (Vec<u8>, String) {
+    static FOLDERS: AtomicU32 = AtomicU32::new(0);
+    let number = FOLDERS.fetch_add(1, Ordering::Relaxed);
+    let folder = env::temp_dir().join(format!("answers-{}-{number}", std::process::id()));
     fs::create_dir_all(&folder).unwrap();
     let (input, expected) = (folder.join("input"), folder.join("expected"));
-    let files = [input.to_str().unwrap(), expected.to_str().unwrap()];
-    assert!(run(env!("CARGO_BIN_EXE_answers"), &files).status.success());
-    let bytes = fs::read(&input).unwrap();
+    fs::write(&input, [0]).unwrap();
+    fs::write(&expected, "questions 0\n").unwrap();
+    let mut all = vec![input.to_str().unwrap(), expected.to_str().unwrap()];
+    all.extend(arguments);
+    assert!(run(env!("CARGO_BIN_EXE_answers"), &all).status.success());
+    let mut bytes = fs::read(&input).unwrap();
     let text = fs::read_to_string(&expected).unwrap();
     fs::remove_dir_all(&folder).unwrap();
+    assert_eq!(bytes.pop(), Some(0));
+    let (lines, last) = text.trim_end().rsplit_once('\n').unwrap();
+    assert!(last.starts_with("questions ") && text.ends_with('\n'));
+    (bytes, lines.to_string() + "\n")
+}
 
-    assert!(bytes.len() < 400_000);
-    assert!(bytes.ends_with(&[0]));
+/// The sample for the gate is small and has every refusal of archives and builds; with pointers of 16 bits also 16, and 14 before it.
+#[test]
+fn sample() {
+    let (bytes, text) = answers(&[]);
+    assert!(bytes.len() < if BITS == 32 { 400_000 } else { 150_000 });
     let has = |line: &str| text.lines().any(|found| found == line);
-    let refusals: [(&[&str], &[u8]); 7] = [
-        (&["too long"], &[1]),
+    let refusals: [(&[&str], &[u8]); 5] = [
         (
             &["check", "certify", "walk", "lookup", "range", "column"],
             &[2, 3, 4, 5, 6, 7],
         ),
         (&["certify", "range", "column"], &[8, 9]),
+        (&["column"], &[18]),
         (&["build"], &[10, 11, 12, 13, 14]),
-        (&["distance", "offset", "absent"], &[15]),
-        (&["offset"], &[16]),
-        (&["align"], &[17]),
+        (&["length"], &[11, 13]),
     ];
     for (calls, numbers) in refusals {
         for call in calls {
@@ -84,16 +99,31 @@ fn sample() {
             }
         }
     }
-    // Cases *1 to *3, *6 and *9 among others, *9 by both packings; sizes and parts that document 01 gives.
+    for build in ["build refused 16", "build refused 14"] {
+        let both = format!("length refused 16\n{build}\n");
+        assert_eq!(text.contains(&both), BITS == 16);
+    }
+    for line in ["walk 64 of 76", "range 64 of 76", "lookup none", "bytes 0"] {
+        assert!(has(line), "{line}");
+    }
+}
+
+/// What has no pointers, and cases *1 to *3, *6 and *9 among others, *9 by both packings; sizes and parts that document 01 gives.
+#[cfg(not(any(feature = "pointer_width_16", feature = "pointer_width_64")))]
+#[test]
+fn sample_of_document_01() {
+    let (_, text) = answers(&[]);
+    let has = |line: &str| text.lines().any(|found| found == line);
     for line in [
-        "walk 64 of 76",
-        "range 64 of 76",
-        "lookup none",
+        "too long refused 1",
+        "distance refused 15",
+        "offset refused 15",
+        "absent refused 15",
+        "offset refused 16",
+        "align refused 17",
+        "pack refused 18",
         "lookup 7 9 48",
         "bytes 8 9",
-        "bytes 0",
-        "pack refused 18",
-        "column refused 18",
         "pack 1642850156546",
         "pack 1369045991426",
         "unpack 1 0 -3 3 2",
@@ -115,95 +145,40 @@ fn sample() {
     }
 }
 
-/// The stored examples, and what `listings` is run on, are what the program writes; `fieldlist` is run on one of the examples.
-#[test]
-fn examples() {
-    let folder = env::temp_dir().join(format!("examples-{}", std::process::id()));
-    let written = [folder.join("examples"), folder.join("listings")];
-    fs::create_dir_all(&written[0]).unwrap();
-    let output = run(
-        env!("CARGO_BIN_EXE_make_examples"),
-        &written.each_ref().map(|folder| folder.to_str().unwrap()),
-    );
-    assert!(output.status.success());
-    let [examples, listings] = written;
-    let top = Path::new(env!("CARGO_MANIFEST_DIR")).join("..");
-    let stored = top.join("crates/listings");
-    assert_eq!(same_files(&examples, &top.join("examples")), 22);
-    assert_eq!(same_files(&listings, &stored), 2);
-    assert_eq!(same_files(&listings.join("data"), &stored.join("data")), 14);
-    fs::remove_dir_all(&folder).unwrap();
-    assert_eq!(files(&stored.join("data")).len(), 14);
-    for (of_program, of_example) in [("stdin", "fieldmap"), ("stdout", "txt")] {
-        assert_eq!(
-            fs::read(top.join("crates/fieldlist").join(of_program)).unwrap(),
-            fs::read(top.join("examples/examination").with_extension(of_example)).unwrap()
-        );
-    }
-}
-
-/// The files in a folder, without those in folders below it.
-fn files(folder: &Path) -> Vec<PathBuf> {
-    let paths = fs::read_dir(folder)
-        .unwrap()
-        .map(|file| file.unwrap().path());
-    paths.filter(|path| path.is_file()).collect()
-}
-
-/// Compares the files in a folder with those of the same names in another, and counts them.
-fn same_files(written: &Path, stored: &Path) -> usize {
-    let paths = files(written);
-    for path in &paths {
-        let other = stored.join(path.file_name().unwrap());
-        let same = fs::read(path).unwrap() == fs::read(&other).unwrap();
-        assert!(same, "write {} anew", other.display());
-    }
-    paths.len()
-}
-
-/// The stored sample is what `answers` writes today.
+/// The stored sample begins with what `answers` writes for pointers of 32 bits, ends with what it adds for 64, and has what it adds for 16.
 #[test]
 fn stored_sample() {
-    let folder = env::temp_dir().join(format!("compare-stored-{}", std::process::id()));
-    fs::create_dir_all(&folder).unwrap();
-    let (input, expected) = (folder.join("input"), folder.join("expected"));
-    let files = [input.to_str().unwrap(), expected.to_str().unwrap()];
-    assert!(run(env!("CARGO_BIN_EXE_answers"), &files).status.success());
+    fn stands<T: PartialEq>(part: &[T], stored: &[T]) -> bool {
+        match BITS {
+            16 => stored.windows(part.len()).any(|place| place == part),
+            32 => stored.starts_with(part),
+            _ => stored.ends_with(part),
+        }
+    }
+    let (bytes, text) = answers(&[]);
     let program = Path::new(env!("CARGO_MANIFEST_DIR")).join("../crates/cases");
-    let same = fs::read(&input).unwrap() == fs::read(program.join("stdin")).unwrap()
-        && fs::read(&expected).unwrap() == fs::read(program.join("stdout")).unwrap();
-    fs::remove_dir_all(&folder).unwrap();
+    let (stdin, stdout) = (program.join("stdin"), program.join("stdout"));
+    let (stdin, stdout) = (
+        fs::read(stdin).unwrap(),
+        fs::read_to_string(stdout).unwrap(),
+    );
+    let (lines, _) = stdout.trim_end().rsplit_once('\n').unwrap();
+    let lines: Vec<&str> = lines.lines().collect();
+    let same = stands(&bytes, &stdin[..stdin.len() - 1])
+        && stands(&text.lines().collect::<Vec<&str>>(), &lines);
     assert!(same, "write crates/cases/stdin and stdout anew");
 }
 
 /// A random sample of some hundred archives has refusals of every call, and the same seed gives the same one.
 #[test]
 fn random_sample() {
-    let folder = env::temp_dir().join(format!("compare-random-{}", std::process::id()));
-    fs::create_dir_all(&folder).unwrap();
-    let file = |name: &str| folder.join(name).to_str().unwrap().to_string();
-    let write = |names: [&str; 2], seed| {
-        let [input, expected] = names.map(file);
-        let output = run(
-            env!("CARGO_BIN_EXE_answers"),
-            &[&input, &expected, "300", seed],
-        );
-        assert!(output.status.success());
-        (
-            fs::read(input).unwrap(),
-            fs::read_to_string(expected).unwrap(),
-        )
-    };
-    let (one, again) = (write(["a", "b"], "5"), write(["c", "d"], "5"));
-    let other = write(["e", "f"], "6");
-    fs::remove_dir_all(&folder).unwrap();
+    let (one, again) = (answers(&["300", "5"]), answers(&["300", "5"]));
     assert!(one == again);
-    assert!(one != other);
-    for number in 1..=18 {
+    assert!(one != answers(&["300", "6"]));
+    for number in 2..=18 {
         let refused = format!(" refused {number}");
-        assert!(
-            one.1.lines().any(|line| line.ends_with(&refused)),
-            "{number}"
-        );
+        let comes_up = one.1.lines().any(|line| line.ends_with(&refused));
+        let part = matches!(number, 15 | 17) && BITS != 32 || number == 16 && BITS == 64;
+        assert_eq!(comes_up, !part, "{number}");
     }
 }

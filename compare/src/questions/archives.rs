@@ -3,8 +3,8 @@
 
 use std::ops::Bound;
 
-use super::{length, line, number, packed, Question};
-use crate::model::{self, Column, Packing};
+use super::{length, line, number, packed, Question, WIDTH};
+use crate::model::{self, Column, Packing, COMMON, OWN};
 use crate::rkyv_map::{Accepted, Archive};
 use crate::trees::{self, Random};
 use crate::{cases, columns};
@@ -15,7 +15,11 @@ const LONGEST: usize = 65_536;
 const ROOM: usize = 64;
 /// Generated archives by certify's answer, at 0 the certified ones: how many are taken, and how long they may be. Those nested too deep, 5,
 /// are longer than the others; 1 is left out.
-const TAKEN: [(u32, usize); 10] = [
+const TAKEN: [(u32, usize); 10] = match WIDTH {
+    32 => MANY,
+    _ => FEWER,
+};
+const MANY: [(u32, usize); 10] = [
     (100, 1_500),
     (0, 0),
     (60, 1_200),
@@ -27,6 +31,18 @@ const TAKEN: [(u32, usize); 10] = [
     (40, 1_200),
     (40, 1_200),
 ];
+const FEWER: [(u32, usize); 10] = [
+    (14, 1_500),
+    (0, 0),
+    (8, 1_200),
+    (6, 1_200),
+    (4, 1_200),
+    (3, 2_400),
+    (6, 1_200),
+    (6, 1_200),
+    (6, 1_200),
+    (6, 1_200),
+];
 
 /// An archive and what is asked of it.
 pub struct Case {
@@ -36,7 +52,7 @@ pub struct Case {
     pub columns: Vec<Column>,
 }
 
-/// The lines of the archives that the input does not have: 1,048,577 bytes, and 1,048,576 of them.
+/// The lines of the archives that the input does not have, which have pointers of 32 bits: 1,048,577 bytes, and 1,048,576 of them.
 pub fn longest() -> Vec<String> {
     let bytes = vec![165; (1 << 20) + 1];
     let count = |count: u32| count.to_string();
@@ -48,8 +64,8 @@ pub fn longest() -> Vec<String> {
     ]
 }
 
-/// Document 01's archives, each asked for all its keys, all its entries and the range of case *4; archives of packed keys; then generated
-/// ones in the order of their seeds, until there are enough of each kind.
+/// Document 01's archives, each asked for all its keys, all its entries and the range of case *4; with pointers of 32 bits archives of packed
+/// keys; then generated ones in the order of their seeds, until there are enough of each kind.
 pub fn all() -> Vec<Question> {
     let random = &mut Random::new(0);
     let mut asked = Vec::new();
@@ -61,7 +77,9 @@ pub fn all() -> Vec<Question> {
         case.ranges.push((Bound::Excluded(3), Bound::Excluded(3)));
         asked.push(case);
     }
-    asked.extend(packed::all());
+    if OWN == COMMON {
+        asked.extend(packed::all());
+    }
     let mut wanted = TAKEN;
     for seed in 0.. {
         let archive = trees::archive(seed);
@@ -133,7 +151,7 @@ impl Case {
     }
 
     fn bytes(&self) -> Vec<u8> {
-        let mut bytes = vec![1];
+        let mut bytes = vec![1, WIDTH];
         bytes.extend(length(self.archive.len()));
         bytes.extend(&self.archive);
         bytes.extend(length(self.keys.len()));

@@ -1,59 +1,33 @@
-//! Questions to the builder: rkyv's archive, byte for byte by its checksum; document 01 answers 10 to 14, which are ours alone.
+//! Questions to the builder, as `build` makes them of lists, headers and outputs.
 
-use super::{length, line, Question};
-use crate::model;
-use crate::rkyv_map;
+use super::build::{build, List, Room};
+use super::{Question, WIDTH};
+use crate::model::{COMMON, OWN};
 use crate::trees::Random;
 
-/// What every byte of an output is before a build.
-const BEFORE: u8 = 165;
+pub use super::build::checksum;
 
-/// A list as the input has it.
-#[derive(Clone)]
-enum List {
-    Numbers(Vec<u64>),
-    /// From the first number on in steps; past the largest it goes on at 0.
-    Steps(usize, u64, u64),
-}
+/// The most entries whose offsets fit 16 bits.
+const MOST_AT_16: usize = 2_970;
 
-impl List {
-    fn numbers(&self) -> Vec<u64> {
-        match self {
-            List::Numbers(numbers) => numbers.clone(),
-            &List::Steps(length, first, step) => (0..length as u64)
-                .map(|index| first.wrapping_add(index.wrapping_mul(step)))
-                .collect(),
-        }
-    }
-
-    fn put(&self, bytes: &mut Vec<u8>) {
-        match self {
-            List::Numbers(numbers) => {
-                bytes.extend(length(numbers.len()));
-                bytes.push(0);
-                bytes.extend(numbers.iter().flat_map(|number| number.to_le_bytes()));
-            }
-            List::Steps(count, first, step) => {
-                bytes.extend(length(*count));
-                bytes.push(1);
-                bytes.extend([first, step].iter().flat_map(|number| number.to_le_bytes()));
-            }
-        }
-    }
-}
-
-/// The length of the output: this one, or as long as the archive's end and these bytes more or fewer.
-#[derive(Clone, Copy)]
-enum Room {
-    Of(usize),
-    Past(isize),
-}
-
-/// Document 01's builds; every number of entries to 45, and others about each height's first, behind headers of all kinds; the ends of the
-/// keys and values; and calls that are refused, also with several faults at once.
+/// Document 01's builds, the ends of keys and values, others of all kinds, and calls that are refused, also with several faults at once.
 pub fn all() -> Vec<Question> {
     let random = &mut Random::new(2);
     let mut questions = named();
+    questions.extend(match OWN == COMMON {
+        true => many(random),
+        false => fewer(random),
+    });
+    questions.extend(refused());
+    if WIDTH == 16 {
+        questions.extend(far());
+    }
+    questions
+}
+
+/// Every number of entries to 45, and others about each height's first, behind headers of all kinds.
+fn many(random: &mut Random) -> Vec<Question> {
+    let mut questions = Vec::new();
     for count in 0..=45 {
         let header = random.pick(&[0, 1, 4, 5, 8, 17, 31]);
         questions.push(some(header, count, random));
@@ -66,26 +40,77 @@ pub fn all() -> Vec<Question> {
         questions.push(some(header, 0, random));
     }
     for count in [258, 1_295, 1_296, 7_775, 7_776, 39_999, 40_000] {
-        let past = random.below(40) as isize;
-        let keys = List::Steps(count, 3, 5);
-        let values = List::Steps(count, u64::MAX, random.number());
-        questions.push(build(3, Room::Past(past), &keys, &values));
+        questions.push(larger(count, random));
     }
-    questions.extend(refused());
     questions
 }
 
-/// So many random builds of up to 40 entries; every fourth with a fault or two.
+/// The same with less of each.
+fn fewer(random: &mut Random) -> Vec<Question> {
+    let mut questions = Vec::new();
+    for count in [4, 5, 6, 7, 11, 12, 34, 35, 36, 37, 215, 216] {
+        let header = random.pick(&[0, 1, 2, 4, 5, 8, 17]);
+        questions.push(some(header, count, random));
+    }
+    for header in (1..=9).chain([4_095, 4_096]) {
+        questions.push(some(header, 0, random));
+    }
+    let last = if WIDTH == 16 { MOST_AT_16 } else { 40_000 };
+    for count in [1_295, 1_296, last] {
+        questions.push(larger(count, random));
+    }
+    questions
+}
+
+/// So many random builds of up to 40 entries, every fourth with a fault or two; with pointers of 16 bits some of about as many entries as the
+/// offsets take.
 pub fn random(number: usize, random: &mut Random) -> Vec<Question> {
     let builds = (0..number).map(|_| {
         let (count, header) = (random.below(41), random.below(24) as u64);
-        if random.one_in(4) {
+        if WIDTH == 16 && random.one_in(32) {
+            let count = MOST_AT_16 - 10 + random.below(21);
+            let keys = List::Steps(count, random.number() >> 32, 1 + random.number() % 1_000);
+            let room = random.pick(&[Room::Past(0), Room::Past(9), Room::Past(-1), Room::Of(0)]);
+            build(header, room, &keys, &keys)
+        } else if random.one_in(4) {
             faulty(header, count, random)
         } else {
             some(header, count, random)
         }
     });
     builds.collect()
+}
+
+/// The build of as many entries, a list in steps, in an output that goes on past the archive.
+fn larger(count: usize, random: &mut Random) -> Question {
+    let past = random.below(40) as isize;
+    let keys = List::Steps(count, 3, 5);
+    let values = List::Steps(count, u64::MAX, random.number());
+    build(3, Room::Past(past), &keys, &values)
+}
+
+/// Builds whose offsets do not fit 16 bits, and the last that do: 16 comes after 14, and after all others.
+fn far() -> Vec<Question> {
+    let (last, more) = (
+        List::Steps(MOST_AT_16, 1, 1),
+        List::Steps(MOST_AT_16 + 1, 1, 1),
+    );
+    let (most, same) = (List::Steps(40_000, 1, 1), List::Steps(MOST_AT_16 + 1, 7, 0));
+    let (fits, short) = (Room::Past(0), Room::Past(-1));
+    vec![
+        build(0, fits, &last, &last),
+        build(4_096, fits, &last, &last),
+        build(0, short, &last, &last),
+        build(5, short, &last, &last),
+        build(0, fits, &more, &more),
+        build(4_096, Room::Past(40), &more, &more),
+        build(0, short, &more, &more),
+        build(0, Room::Of(0), &more, &more),
+        build(4_097, Room::Of(80_000), &more, &more),
+        build(0, fits, &same, &more),
+        build(0, fits, &more, &last),
+        build(0, fits, &most, &most),
+    ]
 }
 
 /// A build with one of the faults 10 to 14, or with two.
@@ -199,65 +224,10 @@ fn refused() -> Vec<Question> {
         build(0, Room::Past(-1), &six, &six),
         build(5, Room::Past(-1), &six, &six),
         build(5, Room::Past(-1), &count_up(0), &count_up(0)),
-        build(0, Room::Of(7), &count_up(0), &count_up(0)),
+        build(0, Room::Past(-1), &count_up(0), &count_up(0)),
         build(0, none, &count_up(0), &count_up(0)),
         build(4_096, Room::Of(4_095), &count_up(1), &count_up(1)),
         build(4_096, Room::Of(4_096), &count_up(1), &count_up(1)),
         build(0, Room::Past(-1), &most, &most),
     ]
-}
-
-fn build(header: u64, room: Room, keys: &List, values: &List) -> Question {
-    let (given_keys, given_values) = (keys.numbers(), values.numbers());
-    let archive = || {
-        let header = vec![BEFORE; header as usize];
-        rkyv_map::build(&header, &given_keys, &given_values)
-    };
-    let room = match room {
-        Room::Of(length) => length,
-        // Where a list is refused before it could be built, any length will do.
-        Room::Past(_) if given_keys.len() != given_values.len() => 512,
-        Room::Past(more) => archive().len().saturating_add_signed(more),
-    };
-    let end = || archive().len();
-    let fault = model::build_fault(&given_keys, &given_values, header, end, room);
-
-    let mut bytes = vec![2];
-    bytes.extend(header.to_le_bytes());
-    bytes.extend(length(room));
-    keys.put(&mut bytes);
-    values.put(&mut bytes);
-
-    let mut output = vec![BEFORE; room];
-    let mut lines = vec![line("length", needed(given_keys.len(), header), |end| {
-        end.to_string()
-    })];
-    let answer = fault.map_or_else(|| Ok(archive()), Err);
-    if let Ok(archive) = &answer {
-        output[..archive.len()].copy_from_slice(archive);
-    }
-    let count = answer.as_ref().ok().map(|_| given_keys.len());
-    lines.push(line("build", answer, |archive| archive.len().to_string()));
-    lines.extend(count.map(|count| format!("certify {count}")));
-    lines.push(format!("checksum {}", checksum(&output)));
-    Question { bytes, lines }
-}
-
-/// How long an output has to be for so many entries: where rkyv's archive of others, as many, ends.
-fn needed(count: usize, header: u64) -> Result<usize, u8> {
-    if count > 40_000 {
-        return Err(11);
-    }
-    if header > 4_096 {
-        return Err(13);
-    }
-    let numbers: Vec<u64> = (0..count as u64).collect();
-    Ok(rkyv_map::build(&vec![BEFORE; header as usize], &numbers, &numbers).len())
-}
-
-/// The bytes as the digits of a number in base 1,000,003, the first one the highest: its remainder by the largest prime below 2^32.
-pub fn checksum(bytes: &[u8]) -> u64 {
-    bytes.iter().fold(0, |remainder, &byte| {
-        (remainder * 1_000_003 + u64::from(byte)) % 4_294_967_291
-    })
 }

@@ -1,11 +1,17 @@
-//! The sample that the program `cases` replays: questions to the proved calls, as bytes of its input, and the lines that it must print.
+//! The sample that the program `cases` replays: questions to the proved calls, as bytes of its input, and the lines that it must print. Archives
+//! and builds have pointers of the bits that rkyv is built for.
 
 pub mod archives;
+mod build;
 pub mod builds;
 mod packed;
 pub mod parts;
 
 use crate::model::Packing;
+use crate::rkyv_map::BITS;
+
+/// The width of pointers, as the input has it.
+const WIDTH: u8 = BITS as u8;
 
 /// A question's bytes, its kind first, and the lines of its answer.
 pub struct Question {
