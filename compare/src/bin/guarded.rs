@@ -2,8 +2,8 @@
 //!
 //! `guarded [NUMBER [FIRST]]` takes as many seeds from the first on. What is lent stands between pages that fault, once with its end and once
 //! with its start at one of them, and marked bytes on the other side; archives and given lists cannot be written. A fault prints its seed
-//! and ends the program with 1, and so does a changed mark, a changed place that no entry was written to, or another answer than the model's
-//! or than in the other place.
+//! and ends the program with 1, and so does a changed mark, a changed place that no entry was written to, another answer than the model's
+//! or than in the other place, or a build other than rkyv's. Archives have pointers of the bits that rkyv is built for.
 //!
 //! `guarded NUMBER FIRST heap` lends allocations of exactly the right size instead, for a run under valgrind.
 
@@ -11,14 +11,17 @@ use std::env;
 use std::process::ExitCode;
 use std::sync::atomic::{AtomicU64, Ordering};
 
+use compare::building::Right;
 use compare::counts::Counts;
 use compare::lender::{Lender, Place};
-use compare::rkyv_map::Found;
+use compare::model::OWN;
+use compare::rkyv_map::{build_if_it_fits, Found, BITS};
 use compare::trees::{self, Random};
 use compare::{columns, model, ours};
 
-/// What a place of a lent list holds before a call.
+/// What a place of a lent list holds before a call, and a byte of the output before a build.
 const BEFORE: u64 = 0x3333_3333_3333_3333;
+const BYTE_BEFORE: u8 = 0xaa;
 
 /// The most entries of a generated archive, and a few more.
 const MOST: usize = 12_000;
@@ -92,7 +95,10 @@ fn main() -> ExitCode {
         [Place::Heap] => "in allocations of exactly their size",
         _ => "at both of two pages that fault",
     };
-    println!("seeds {first} to {}, {stood}", first + number);
+    println!(
+        "pointers of {BITS} bits, seeds {first} to {}, {stood}",
+        first + number
+    );
     ExitCode::SUCCESS
 }
 
@@ -190,48 +196,44 @@ fn kept(list: &[u64], from: usize) -> bool {
     list[from..].iter().all(|&number| number == BEFORE)
 }
 
-/// The builder, into an output that is too short, just right or longer.
+/// The builder, into an output that is too short, just right or longer; with pointers of 16 bits now and then of about as many entries as the
+/// offsets take.
 fn build(
     lenders: &mut Lenders,
     place: Place,
     random: &mut Random,
     trace: &mut Vec<String>,
 ) -> Result<(), String> {
-    let entries = random.pick(&[0, 1, 5, 6, 35, 36, 50]) + random.below(8);
+    let mut entries = random.pick(&[0, 1, 5, 6, 35, 36, 50]) + random.below(8);
+    if BITS == 16 && random.one_in(16) {
+        entries = 2_967 + random.below(8);
+    }
     let keys: Vec<u64> = (0..entries as u64).map(|index| 3 * index).collect();
     let keys = &*lenders.given_keys.lend(place, &keys);
     let values = &*lenders.given_values.lend(place, keys);
     let header = random.below(20);
-    let end = {
-        let mut enough = vec![0; 32 * entries + 1_000];
-        ours::build(&mut enough, header, keys, values).expect("there is room") as usize
-    };
+    let front = vec![BYTE_BEFORE; header];
+    let Right { archive, end } = Right::of(OWN, build_if_it_fits::<5>, &front, keys, values);
     let (short, long) = (random.below(end), end + random.below(30));
     let length = random.pick(&[end, end, long, short]);
-    let output = lenders.output.lend(place, &vec![0xaa; length]);
+    let right = match length < end {
+        true => Err(14),
+        false => archive,
+    };
+    let output = lenders.output.lend(place, &vec![BYTE_BEFORE; length]);
     let answer = ours::build(output, header, keys, values);
-    let (from, to) = answer.map_or((0, 0), |end| (header, end as usize));
-    let outside = output[..from].iter().chain(&output[to..]);
-    expect(
-        outside.copied().all(|byte| byte == 0xaa),
-        "beside what is built",
-    )?;
-    expect(
-        answer
-            == if length < end {
-                Err(14)
-            } else {
-                Ok(end as u32)
-            },
-        "build",
-    )?;
+    let number = right.as_ref().map(|archive| archive.len() as u32);
+    expect(answer == number.map_err(|number| *number), "build")?;
+    let archive = right.unwrap_or_default();
+    let (built, past) = output.split_at(archive.len());
+    expect(*built == archive, "what is built")?;
+    let kept = past.iter().all(|&byte| byte == BYTE_BEFORE);
+    expect(kept, "past what is built")?;
     if answer.is_ok() {
-        expect(
-            ours::certify(&output[..to]) == Ok(entries as u32),
-            "certify",
-        )?;
+        let certified = ours::certify(built);
+        expect(certified == Ok(entries as u32), "certify")?;
     }
-    trace.push(format!("{answer:?} {:?}", &output[from..to]));
+    trace.push(format!("{answer:?}"));
     let beside = lenders.given_keys.margin_kept() && lenders.given_values.margin_kept();
     expect(
         beside && lenders.output.margin_kept(),
