@@ -1,17 +1,17 @@
 //! Compares answers on generated archives: rkyv's with the model's, which is document 01's text, and, with the feature `ours`, the proved
 //! code's with both. The archives have pointers of the bits that rkyv is built for.
 //!
-//! `compare [NUMBER [FIRST]]` takes the archives at the edges of the layout, and as many seeds from the first on. Prints the seeds, how many
-//! archives there were of each kind, and what was compared with the model only. If answers differ, it prints the smallest archive on which they
-//! do, in hex, and ends with 1. A run of a million seeds or more also ends with 1 if one of the refusals 1 to 9 comes up less than 100 times
-//! among their archives.
+//! `compare [NUMBER [FIRST]]` takes archives at the edges, also those of the other widths, and as many seeds from the first on. Prints the seeds,
+//! how many archives there were of each kind, and what was compared with the model only. If answers differ, it prints the smallest archive on
+//! which they do, in hex, and ends with 1. A run of a million seeds or more also ends with 1 if one of the refusals 1 to 9 comes up less than
+//! 100 times among their archives.
 
 use std::env;
 use std::fmt::Display;
 use std::process::ExitCode;
 
 use compare::counts::{Counts, Differences, LeftOut, LEAST};
-use compare::model::{self, OWN};
+use compare::model::{self, Layout, OWN};
 use compare::readers;
 use compare::rkyv_map::{Archive, BITS};
 use compare::trees::{self, Random};
@@ -30,7 +30,8 @@ fn main() -> ExitCode {
     println!("pointers of {BITS} bits, seeds from {first}, {number} of them");
 
     let mut run = Run::default();
-    let edges = trees::edges(OWN);
+    let edges = [2, 4, 8].map(|width| trees::edges(Layout { width, ..OWN }));
+    let edges = edges.concat();
     println!("{:36}{:9}", "archives at the edges", edges.len());
     for (index, bytes) in (0..).zip(edges) {
         run.compare(&bytes, format_args!("edge {index}"), index);
