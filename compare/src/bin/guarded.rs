@@ -216,22 +216,17 @@ fn build(
     let Right { archive, end } = Right::of(OWN, build_if_it_fits::<5>, &front, keys, values);
     let (short, long) = (random.below(end), end + random.below(30));
     let length = random.pick(&[end, end, long, short]);
-    let right = match length < end {
-        true => Err(14),
-        false => archive,
-    };
+    let right = (length >= end).then_some(archive).unwrap_or(Err(14));
     let output = lenders.output.lend(place, &vec![BYTE_BEFORE; length]);
     let answer = ours::build(output, header, keys, values);
     let number = right.as_ref().map(|archive| archive.len() as u32);
     expect(answer == number.map_err(|number| *number), "build")?;
     let archive = right.unwrap_or_default();
     let (built, past) = output.split_at(archive.len());
-    expect(*built == archive, "what is built")?;
     let kept = past.iter().all(|&byte| byte == BYTE_BEFORE);
-    expect(kept, "past what is built")?;
+    expect(*built == archive && kept, "what is built")?;
     if answer.is_ok() {
-        let certified = ours::certify(built);
-        expect(certified == Ok(entries as u32), "certify")?;
+        expect(ours::certify(built) == Ok(entries as u32), "certify")?;
     }
     trace.push(format!("{answer:?}"));
     let beside = lenders.given_keys.margin_kept() && lenders.given_values.margin_kept();
