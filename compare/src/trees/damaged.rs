@@ -34,11 +34,13 @@ fn damage(layout: Layout, bytes: &mut Vec<u8>, random: &mut Random) {
         }
         6 if !leaves.is_empty() => {
             let (full, above) = (entries, entries + 1);
-            let count = random.pick(&[0, 1, full - 1, full, above, above + 1, 256, u64::MAX]);
+            let large = large(layout, full);
+            let count = random.pick(&[0, 1, full - 1, full, above, above + 1, large, u64::MAX]);
             layout.put(bytes, random.pick(&leaves) + layout.head(), count);
         }
         7 => {
-            let count = random.pick(&[0, 1, 2, entries, entries + 1, 76, 256, u64::MAX]);
+            let large = large(layout, layout.number(bytes, record + layout.width));
+            let count = random.pick(&[0, 1, 2, entries, entries + 1, 76, large, u64::MAX]);
             layout.put(bytes, record + layout.width, count);
         }
         8..=9 if !nodes.is_empty() => other_key(layout, bytes, &nodes, random),
@@ -47,6 +49,14 @@ fn damage(layout: Layout, bytes: &mut Vec<u8>, random: &mut Random) {
             let position = random.below(bytes.len());
             bytes[position] = random.number() as u8;
         }
+    }
+}
+
+/// A count that is too large: in a field of 8 bytes one whose lower 4 say this number.
+fn large(layout: Layout, lower: u64) -> u64 {
+    match layout.width {
+        8 => 1 << 32 | lower,
+        _ => 256,
     }
 }
 
@@ -103,9 +113,11 @@ fn other_offset(layout: Layout, bytes: &mut [u8], nodes: &[Node], random: &mut R
     };
     let old = layout.number(bytes, field);
     let least = 1 << (8 * layout.width - 1);
+    // In a field of 8 bytes one that the lower 4 do not show.
+    let step = if layout.width == 8 { 1 << 32 } else { 8 };
     let other = match random.below(6) {
         0 => random.pick(&[0, 1, u64::MAX, least, least - 1]),
-        1..=2 => old.wrapping_add_signed(random.pick(&[-16, -8, -4, -1, 1, 4, 8, 16])),
+        1..=2 => old.wrapping_add_signed(random.pick(&[-16, -8, -4, -1, 1, 4, step, 16])),
         3..=4 if !nodes.is_empty() => offset(field, random.pick(nodes).position),
         3..=4 => offset(field, 8 * random.below((bytes.len() / 8).max(1))),
         _ => random.number(),
