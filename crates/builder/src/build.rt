@@ -150,8 +150,8 @@ pub fn build_length(layout: Layout, entries: usize, header: usize) -> BuildAnswe
         return BuildAnswer::Refused(Refusal::HeaderTooLong);
     }
     let p = plan_of(layout, entries, header);
-    if !p.fits {
-        return BuildAnswer::Refused(Refusal::OffsetOverflow);
+    if p.fits {
+        return BuildAnswer::Built(p.end);
     }
-    BuildAnswer::Built(p.end)
+    BuildAnswer::Refused(Refusal::OffsetOverflow)
 }

@@ -6,6 +6,7 @@ use crate::input::next_packing;
 use crate::input::next_u8;
 use crate::input::next_u32;
 use crate::input::next_u64;
+use crate::input::next_width;
 use crate::output::print;
 use crate::output::print_checked;
 use crate::output::print_entries;
@@ -14,17 +15,18 @@ use crate::output::print_number;
 use crate::output::print_pair;
 use crate::output::print_refused;
 use fields::primitive::u64_at;
+use format::Width;
 use libc::STDIN_FILENO;
 use readers::LookupAnswer;
 use readers::RangeAnswer;
 use readers::WalkAnswer;
 
 // The lent lists differ in length, here and in the ranges: the shorter has 64 places.
-fn replay_walk(archive: &[u8]) {
+fn replay_walk(width: Width, archive: &[u8]) {
     let mut keys = [0u64; 80];
     let mut values = [0u64; 64];
     print(b"walk ");
-    match fieldmap::walk(archive, &mut keys, &mut values) {
+    match fieldmap::walk(width, archive, &mut keys, &mut values) {
         WalkAnswer::Refused(why) => print_refused(why),
         WalkAnswer::Walked(written, count) => {
             print_pair(written as u64, b" of ", count as u64);
@@ -34,8 +36,8 @@ fn replay_walk(archive: &[u8]) {
 }
 
 // The second form of lookup: the part's length, and the number that its eight bytes are.
-fn replay_bytes(archive: &[u8], key: u64) {
-    let part = fieldmap::lookup_bytes(archive, key);
+fn replay_bytes(width: Width, archive: &[u8], key: u64) {
+    let part = fieldmap::lookup_bytes(width, archive, key);
     print(b"bytes ");
     if part.len() < 8 {
         print_line(part.len() as u64);
@@ -44,10 +46,10 @@ fn replay_bytes(archive: &[u8], key: u64) {
     print_pair(part.len() as u64, b" ", u64_at(part, 0));
 }
 
-fn replay_lookup(archive: &[u8]) {
+fn replay_lookup(width: Width, archive: &[u8]) {
     let key = next_u64();
     print(b"lookup ");
-    match fieldmap::lookup(archive, key) {
+    match fieldmap::lookup(width, archive, key) {
         LookupAnswer::Refused(why) => print_refused(why),
         LookupAnswer::Nothing => print(b"none\n"),
         LookupAnswer::Entry(e) => {
@@ -56,7 +58,7 @@ fn replay_lookup(archive: &[u8]) {
             print_pair(e.value, b" ", e.position.0 as u64);
         }
     }
-    replay_bytes(archive, key);
+    replay_bytes(width, archive, key);
 }
 
 fn print_range(answer: RangeAnswer, keys: &[u64], values: &[u64]) {
@@ -69,17 +71,17 @@ fn print_range(answer: RangeAnswer, keys: &[u64], values: &[u64]) {
     }
 }
 
-fn replay_range(archive: &[u8]) {
+fn replay_range(width: Width, archive: &[u8]) {
     let lower = next_bound();
     let upper = next_bound();
     let mut keys = [0u64; 64];
     let mut values = [0u64; 80];
     print(b"range ");
-    let answer = fieldmap::range(archive, lower, upper, &mut keys, &mut values);
+    let answer = fieldmap::range(width, archive, lower, upper, &mut keys, &mut values);
     print_range(answer, &keys, &values);
 }
 
-fn replay_column(archive: &[u8]) {
+fn replay_column(width: Width, archive: &[u8]) {
     let packing = next_packing();
     let examination = next_u32();
     let eye = next_u8();
@@ -89,6 +91,7 @@ fn replay_column(archive: &[u8]) {
     let mut values = [0u64; 64];
     print(b"column ");
     let answer = fieldmap::column(
+        width,
         archive,
         packing,
         examination,
@@ -101,61 +104,66 @@ fn replay_column(archive: &[u8]) {
     print_range(answer, &keys, &values);
 }
 
-fn replay_lookups(archive: &[u8]) {
+fn replay_lookups(width: Width, archive: &[u8]) {
     let mut left = next_u32();
     while left > 0 {
-        replay_lookup(archive);
+        replay_lookup(width, archive);
         left -= 1;
     }
 }
 
-fn replay_ranges(archive: &[u8]) {
+fn replay_ranges(width: Width, archive: &[u8]) {
     let mut left = next_u32();
     while left > 0 {
-        replay_range(archive);
+        replay_range(width, archive);
         left -= 1;
     }
 }
 
-fn replay_columns(archive: &[u8]) {
+fn replay_columns(width: Width, archive: &[u8]) {
     let mut left = next_u32();
     while left > 0 {
-        replay_column(archive);
+        replay_column(width, archive);
         left -= 1;
     }
 }
 
-fn replay_archive(archive: &[u8]) {
+fn replay_archive(width: Width, archive: &[u8]) {
     print(b"check ");
-    print_checked(fieldmap::check(archive));
+    print_checked(fieldmap::check(width, archive));
     print(b"certify ");
-    print_checked(fieldmap::certify(archive));
-    replay_walk(archive);
-    replay_lookups(archive);
-    replay_ranges(archive);
-    replay_columns(archive);
+    print_checked(fieldmap::certify(width, archive));
+    replay_walk(width, archive);
+    replay_lookups(width, archive);
+    replay_ranges(width, archive);
+    replay_columns(width, archive);
 }
 
 // Fills the list with the next archive.
-fn replay_next(archive: &mut [u8]) {
+fn replay_next(width: Width, archive: &mut [u8]) {
     io::read_full(STDIN_FILENO, archive);
-    replay_archive(archive);
+    replay_archive(width, archive);
 }
 
 // The next archive, read into the front of the buffer; nothing where it is too long for it.
 pub fn replay_case(buffer: &mut [u8]) {
+    let width = next_width();
     let length = next_u32() as usize;
     if length <= buffer.len() {
-        replay_next(&mut buffer[..length]);
+        replay_next(width, &mut buffer[..length]);
     }
+}
+
+fn check_32(bytes: &[u8]) {
+    print_checked(fieldmap::check(Width::Four, bytes));
 }
 
 fn check_longest(bytes: &[u8]) {
     print(b"too long ");
-    print_checked(fieldmap::check(bytes));
+    check_32(bytes);
     if 1048576 <= bytes.len() {
         print(b"longest ");
-        print_checked(fieldmap::check(&bytes[..1048576]));
+        check_32(&bytes[..1048576]);
     }
 }
 

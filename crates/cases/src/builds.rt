@@ -3,11 +3,13 @@ use crate::checksum::checksum;
 use crate::input::next_list;
 use crate::input::next_u32;
 use crate::input::next_u64;
+use crate::input::next_width;
 use crate::output::print;
 use crate::output::print_checked;
 use crate::output::print_line;
 use crate::output::print_refused;
 use builder::build::BuildAnswer;
+use format::Width;
 ghost use mathlib.Core.Path.{_≡_};
 ghost use lib.ListN.{length, replicate};
 
@@ -27,29 +29,29 @@ fn room() -> [u64; 40002]
     [0; 40002]
 }
 
-fn print_certified(archive: &[u8]) {
+fn print_certified(width: Width, archive: &[u8]) {
     print(b"certify ");
-    print_checked(fieldmap::certify(archive));
+    print_checked(fieldmap::certify(width, archive));
 }
 
-fn print_length(entries: usize, header: usize) {
+fn print_length(width: Width, entries: usize, header: usize) {
     print(b"length ");
-    match fieldmap::build_length(entries, header) {
+    match fieldmap::build_length(width, entries, header) {
         BuildAnswer::Refused(why) => print_refused(why),
         BuildAnswer::Built(end) => print_line(end as u64),
     }
 }
 
 // The length that as many entries as there are keys need, the answer, what certify says of the archive, and the checksum of the whole output.
-fn build(out: &mut [u8], header: usize, keys: &[u64], values: &[u64]) {
-    print_length(keys.len(), header);
+fn build(width: Width, out: &mut [u8], header: usize, keys: &[u64], values: &[u64]) {
+    print_length(width, keys.len(), header);
     print(b"build ");
-    match fieldmap::build(out, header, keys, values) {
+    match fieldmap::build(width, out, header, keys, values) {
         BuildAnswer::Refused(why) => print_refused(why),
         BuildAnswer::Built(end) => {
             print_line(end as u64);
             if end <= out.len() {
-                print_certified(&out[..end]);
+                print_certified(width, &out[..end]);
             }
         }
     }
@@ -59,6 +61,7 @@ fn build(out: &mut [u8], header: usize, keys: &[u64], values: &[u64]) {
 
 // Fills two lists with the next ones, and builds of their fronts in the front of the output.
 fn build_next(out: &mut [u8], keys: &mut [u64], values: &mut [u64]) {
+    let width = next_width();
     let header = next_u64() as usize;
     let length = next_u32() as usize;
     let n = next_list(keys);
@@ -72,7 +75,7 @@ fn build_next(out: &mut [u8], keys: &mut [u64], values: &mut [u64]) {
     if values.len() < m {
         return;
     }
-    build(&mut out[..length], header, &keys[..n], &values[..m]);
+    build(width, &mut out[..length], header, &keys[..n], &values[..m]);
 }
 
 pub fn replay_build() {

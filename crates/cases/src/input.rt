@@ -4,6 +4,7 @@ use fields::primitive::u64_at;
 use fields::twos::signed8;
 use format::Bound;
 use format::Packing;
+use format::Width;
 use libc::STDIN_FILENO;
 
 pub fn next_u8() -> u8 {
@@ -30,21 +31,15 @@ pub fn next_u64() -> u64 {
 
 pub fn next_bound() -> Bound {
     let kind = next_u8();
-    let key = next_u64();
-    if kind == 0 {
-        return Bound::Included(key);
-    }
-    if kind == 1 {
-        return Bound::Excluded(key);
-    }
-    Bound::Unbounded
+    codes::bound(kind, next_u64())
 }
 
 pub fn next_packing() -> Packing {
-    if next_u8() == 0 {
-        return Packing::TwosComplement;
-    }
-    Packing::Plus128
+    codes::packing(next_u8())
+}
+
+pub fn next_width() -> Width {
+    codes::width(next_u8())
 }
 
 // Fills the list with the next numbers.

@@ -1,6 +1,7 @@
 -- Answers as one signed number, and what lent numbers hold afterwards. Assumes nothing: these are definitions.
 use Prim.Native.Nat.{ℕ, zero, suc, _≤_}
 use mathlib.Core.Bool.{Bool, true, false}
+use lib.Dec.{eqb}
 use lib.IntN.{ℤ, pos, negsuc, negℤ}
 use lib.Signed.{_≤ℤ_, _<ℤ_}
 use Rattle.format.specs.declared.Entry.{Entry}
@@ -8,8 +9,11 @@ use Rattle.format.specs.declared.Bound.{Bound}
 use Rattle.format.specs.declared.Bound.the-variants.{Included, Excluded, Unbounded}
 use Rattle.format.specs.declared.Packing.{Packing}
 use Rattle.format.specs.declared.Packing.the-variants.{TwosComplement, Plus128}
+use Rattle.format.specs.declared.Width.{Width}
+use Rattle.format.specs.declared.Width.the-variants.{Two, Four, Eight}
 use Rattle.format.specs.declared.Found.{Found}
 use Rattle.format.specs.declared.Found.the-variants.{Entry as found, Nothing as nothing}
+use Rattle.format.specs.Layout.{Layout, layoutAt}
 use Rattle.format.specs.Refusal.{Answer, gives, refuses}
 use Rattle.format.specs.Align.{Step}
 use Rattle.format.specs.Calls.{Walk, Matched}
@@ -90,3 +94,11 @@ boundOf (suc (suc n)) k = Unbounded
 abbrev pub packingOf : ℕ → Packing
 packingOf zero = TwosComplement
 packingOf (suc n) = Plus128
+
+-- A width by its bits: 16, 64, and 32 for any other number.
+abbrev pub widthBy : ℕ → Width
+widthBy n = elim (eqb n 16) [ true ↦ Two | false ↦ elim (eqb n 64) [ true ↦ Eight | false ↦ Four ] ]
+
+-- The layout that a program names so.
+abbrev pub atBits : ℕ → Layout
+atBits n = layoutAt (widthBy n)

@@ -1,13 +1,14 @@
-// Answers, bounds and packings as numbers, for programs in C and Rust.
+// Answers, bounds, packings and widths as numbers, for programs in C and Rust.
 use format::Bound;
 use format::CheckAnswer;
 use format::Packing;
 use format::Refusal;
+use format::Width;
 ghost use mathlib.Core.Path.{_≡_};
 ghost use Prim.Native.Nat.{ℕ, _<_, _^_};
 ghost use lib.IntN.{pos, negℤ};
 ghost use Rattle.format.specs.Refusal.{gives, checkOf, number};
-ghost use Rattle.codes.specs.Answers.{coded, boundOf, packingOf};
+ghost use Rattle.codes.specs.Answers.{coded, boundOf, packingOf, widthBy};
 
 // What is given, as an answer.
 pub fn given(n: usize) -> i64
@@ -56,4 +57,17 @@ pub fn packing(number: u8) -> Packing
         return Packing::TwosComplement;
     }
     Packing::Plus128
+}
+
+// A width by its bits: 16, 64, and 32 for any other number.
+pub fn width(bits: u8) -> Width
+    ensures { λ r. ⌜ r ≡ widthBy bits ⌝ }
+{
+    if bits == 16 {
+        return Width::Two;
+    }
+    if bits == 64 {
+        return Width::Eight;
+    }
+    Width::Four
 }

@@ -4,13 +4,14 @@ use codes::given;
 use codes::refused;
 use readers::RangeAnswer;
 ghost use mathlib.Core.Path.{_≡_};
-ghost use Rattle.format.specs.Layout.{layout32, standard};
+ghost use Rattle.format.specs.Layout.{standard};
 ghost use Rattle.format.specs.Calls.{rangeCall, rangeKeys, rangeValues, columnCall, columnKeys, columnValues};
-ghost use Rattle.codes.specs.Answers.{coded, Tells, stored, boundOf, packingOf, rangeWritten, rangeMatching};
+ghost use Rattle.codes.specs.Answers.{coded, Tells, atBits, stored, boundOf, packingOf, rangeWritten, rangeMatching};
 
 // Writes keys and values of the entries that meet both bounds until the shorter list is full, and stores how many there are. The number written.
 #[no_mangle]
 pub extern "C" fn fieldmap_range(
+    width: u8,
     archive: &[u8],
     lower_kind: u8,
     lower: u64,
@@ -21,24 +22,24 @@ pub extern "C" fn fieldmap_range(
     matching: &mut u64,
 ) -> i64
     ensures answer { λ r. ⌜ r ≡ coded rangeWritten
-        (rangeCall layout32 standard (now (archive .entry)) (boundOf «lower_kind» lower) (boundOf «upper_kind» upper)
+        (rangeCall (atBits width) standard (now (archive .entry)) (boundOf «lower_kind» lower) (boundOf «upper_kind» upper)
         (now (keys .entry)) (now (values .entry))) ⌝ }
-    ensures told { λ r. ⌜ Tells r (rangeCall layout32 standard (now (archive .entry)) (boundOf «lower_kind» lower) (boundOf «upper_kind» upper)
+    ensures told { λ r. ⌜ Tells r (rangeCall (atBits width) standard (now (archive .entry)) (boundOf «lower_kind» lower) (boundOf «upper_kind» upper)
         (now (keys .entry)) (now (values .entry))) ⌝ }
     ensures keys { λ r. ⌜ now (keys .exit)
-        ≡ rangeKeys layout32 standard (now (archive .entry)) (boundOf «lower_kind» lower) (boundOf «upper_kind» upper)
+        ≡ rangeKeys (atBits width) standard (now (archive .entry)) (boundOf «lower_kind» lower) (boundOf «upper_kind» upper)
         (now (keys .entry)) (now (values .entry)) ⌝ }
     ensures values { λ r. ⌜ now (values .exit)
-        ≡ rangeValues layout32 standard (now (archive .entry)) (boundOf «lower_kind» lower) (boundOf «upper_kind» upper)
+        ≡ rangeValues (atBits width) standard (now (archive .entry)) (boundOf «lower_kind» lower) (boundOf «upper_kind» upper)
         (now (keys .entry)) (now (values .entry)) ⌝ }
     ensures matching { λ r. ⌜ now (matching .exit) ≡ stored rangeMatching
-        (rangeCall layout32 standard (now (archive .entry)) (boundOf «lower_kind» lower) (boundOf «upper_kind» upper)
+        (rangeCall (atBits width) standard (now (archive .entry)) (boundOf «lower_kind» lower) (boundOf «upper_kind» upper)
         (now (keys .entry)) (now (values .entry)))
         (now (matching .entry)) ⌝ }
 {
     let from = bound(lower_kind, lower);
     let to = bound(upper_kind, upper);
-    match fieldmap::range(archive, from, to, keys, values) {
+    match fieldmap::range(codes::width(width), archive, from, to, keys, values) {
         RangeAnswer::Refused(why) => refused(why),
         RangeAnswer::Matched(written, all) => {
             *matching = all as u64;
@@ -50,6 +51,7 @@ pub extern "C" fn fieldmap_range(
 // The range of a column query, for one eye of one examination, by the packing of the archive's keys. It writes, stores and answers as a range does.
 #[no_mangle]
 pub extern "C" fn fieldmap_column(
+    width: u8,
     archive: &[u8],
     packing: u8,
     examination: u32,
@@ -61,19 +63,29 @@ pub extern "C" fn fieldmap_column(
     matching: &mut u64,
 ) -> i64
     ensures answer { λ r. ⌜ r ≡ coded rangeWritten
-        (columnCall layout32 standard (now (archive .entry)) (packingOf packing) examination eye a b (now (keys .entry)) (now (values .entry))) ⌝ }
+        (columnCall (atBits width) standard (now (archive .entry)) (packingOf packing) examination eye a b (now (keys .entry)) (now (values .entry))) ⌝ }
     ensures told { λ r. ⌜ Tells r
-        (columnCall layout32 standard (now (archive .entry)) (packingOf packing) examination eye a b (now (keys .entry)) (now (values .entry))) ⌝ }
+        (columnCall (atBits width) standard (now (archive .entry)) (packingOf packing) examination eye a b (now (keys .entry)) (now (values .entry))) ⌝ }
     ensures keys { λ r. ⌜ now (keys .exit)
-        ≡ columnKeys layout32 standard (now (archive .entry)) (packingOf packing) examination eye a b (now (keys .entry)) (now (values .entry)) ⌝ }
+        ≡ columnKeys (atBits width) standard (now (archive .entry)) (packingOf packing) examination eye a b (now (keys .entry)) (now (values .entry)) ⌝ }
     ensures values { λ r. ⌜ now (values .exit)
-        ≡ columnValues layout32 standard (now (archive .entry)) (packingOf packing) examination eye a b (now (keys .entry)) (now (values .entry)) ⌝ }
+        ≡ columnValues (atBits width) standard (now (archive .entry)) (packingOf packing) examination eye a b (now (keys .entry)) (now (values .entry)) ⌝ }
     ensures matching { λ r. ⌜ now (matching .exit) ≡ stored rangeMatching
-        (columnCall layout32 standard (now (archive .entry)) (packingOf packing) examination eye a b (now (keys .entry)) (now (values .entry)))
+        (columnCall (atBits width) standard (now (archive .entry)) (packingOf packing) examination eye a b (now (keys .entry)) (now (values .entry)))
         (now (matching .entry)) ⌝ }
 {
     let by = codes::packing(packing);
-    match fieldmap::column(archive, by, examination, eye, a, b, keys, values) {
+    match fieldmap::column(
+        codes::width(width),
+        archive,
+        by,
+        examination,
+        eye,
+        a,
+        b,
+        keys,
+        values,
+    ) {
         RangeAnswer::Refused(why) => refused(why),
         RangeAnswer::Matched(written, all) => {
             *matching = all as u64;

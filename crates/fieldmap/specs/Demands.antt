@@ -1,7 +1,8 @@
 -- What is demanded of the calls, as theorems about what they promise: 1, each answers or gives a listed refusal; 2, they do what the crate does; 3, what
 -- holds of accepted, certified and built archives. The words in quotes are the mission's. The calls' contracts equate each answer, and each lent list
--- afterwards, with a definition of `format` at `layout32` and `standard`; the theorems speak of these definitions, for all arguments. Assumes nothing.
-use Prim.Native.Nat.{ℕ, _^_, _<_}
+-- afterwards, with a definition of `format` at `standard` and the layout of the width that is named; the theorems speak of these definitions, for all
+-- widths and arguments. Assumes nothing.
+use Prim.Native.Nat.{ℕ, _^_, _≤_, _<_}
 use mathlib.Core.Path.{_≡_, sym, _∙_, ap}
 use mathlib.Core.Logic.{_≢_, _↔_, _⊎_}
 use mathlib.Core.Bool.{true, false}
@@ -15,7 +16,7 @@ use Rattle.format.specs.declared.Entry.{Entry}
 use Rattle.format.specs.declared.Found.the-variants.{Entry as found, Nothing as nothing}
 use Rattle.format.specs.declared.Bound.{Bound}
 use Rattle.format.specs.declared.Packing.{Packing}
-use Rattle.format.specs.Layout.{layout32, standard}
+use Rattle.format.specs.Layout.{Width, Layout, atWidth, standard}
 use Rattle.format.specs.Refusal.{Answer, gives, refuses, RefusesBy}
 use Rattle.format.specs.Bytes.{AllWords}
 use Rattle.format.specs.RelPtr.{at, target, signedOffset, storedOffset, absentOffset}
@@ -35,7 +36,7 @@ use Rattle.format.specs.Serialize.{serialize, streamed}
 use Rattle.format.specs.Calls.{lookupCall, bytesCall, placeCall, walkCall, walkKeys, walkValues, rangeCall, rangeKeys, rangeValues}
 use Rattle.format.specs.Calls.{columnCall, columnKeys, columnValues}
 use Rattle.format.specs.Offsets.{archiveEmplaces}
-use Rattle.format.specs.Built.{Taken}
+use Rattle.format.specs.Built.{Taken, LayoutTakes}
 use Rattle.format.specs.Laws.Certify.Find.{find-found, find-nothing, find-one}
 use Rattle.fieldmap.specs.Refusals.{lookup-refused, walk-refused, range-refused, column-refused-by}
 use Rattle.fieldmap.specs.Refusals.{build-by, length-by, signed-by, stored-by, absent-by, align-by, pack-by}
@@ -49,103 +50,12 @@ use Rattle.format.specs.Laws.Calls.Certified.{range-refuses, range-keys-refuses
 use Rattle.format.specs.Laws.Calls.Certified.{certified-exactly, is-certified, certified-accepts, range-certified, range-keys-certified, range-values-certified}
 use Rattle.format.specs.Laws.Range.Iter.{range-yields}
 use Rattle.format.specs.Laws.Numbers.Key.{pack-unpack}
-use Rattle.format.specs.Laws.Build.Taken.{taken, layout-takes, build-output, build-archive}
-use Rattle.format.specs.Laws.Build.Certifies.{build-certifies, wide-gives}
+use Rattle.format.specs.Laws.Build.Taken.{both, taken, layout-takes, taken-gives, build-output, build-archive}
+use Rattle.format.specs.Laws.Build.Certifies.{build-certifies}
 use Rattle.format.specs.Laws.Build.Lengths.{length-given}
 use Rattle.format.specs.Laws.Build.Streaming.{never-panics, streamed-archive}
 
 -- ---- demand 1: "gets an answer or a listed refusal .. and a refusal changes no lent buffer"
-
--- Check refuses only by 1 to 7, certify by 1 to 9.
-pub demand-1-check : (s : List ℕ) → RefusesBy 1 7 (counted (checkArchive layout32 standard s))
-demand-1-check s = check-by layout32 standard s
-
-pub demand-1-certify : (s : List ℕ) → RefusesBy 1 9 (counted (certify layout32 standard s))
-demand-1-certify s = certify-by layout32 standard s
-
--- What check refuses, every reader refuses, by the same number; what certify refuses, range and column.
-pub record CheckRefused (s : List ℕ) (r : ℕ) : Type 0 where
-  pub certifying : counted (certify layout32 standard s) ≡ refuses r
-  pub lookup : (k : ℕ) → lookupCall layout32 standard s k ≡ refuses r
-  pub walk : (ks vs : List ℕ) → walkCall layout32 standard s ks vs ≡ refuses r
-
-pub demand-1-check-refused : (s : List ℕ) (r : ℕ) → counted (checkArchive layout32 standard s) ≡ refuses r → CheckRefused s r
-demand-1-check-refused s r e =
-    let c = certify-refuses layout32 standard s r e in
-    record { certifying = c; lookup = lookup-refuses layout32 standard s r e; walk = walk-refuses layout32 standard s r e }
-
-pub record CertifyRefused (s : List ℕ) (r : ℕ) : Type 0 where
-  pub range : (lo hi : Bound) (ks vs : List ℕ) → rangeCall layout32 standard s lo hi ks vs ≡ refuses r
-  pub column : (P : Packing) (exam eye : ℕ) (a b : ℤ) (ks vs : List ℕ) → columnCall layout32 standard s P exam eye a b ks vs ≡ refuses r
-
-pub demand-1-certify-refused : (s : List ℕ) (r : ℕ) → counted (certify layout32 standard s) ≡ refuses r → CertifyRefused s r
-demand-1-certify-refused s r e =
-    record {
-      range = range-refuses layout32 standard s r e;
-      column = λ P exam eye a b ks vs. column-uncertified layout32 standard s P exam eye a b ks vs r e;
-    }
-
--- A lookup that refuses: only where check does, so by 1 to 7. The second form then returns the empty part, at the archive's start.
-pub record LookupRefused (s : List ℕ) (k r : ℕ) : Type 0 where
-  pub check : counted (checkArchive layout32 standard s) ≡ refuses r
-  pub part : bytesCall layout32 standard s k ≡ []
-  pub place : (a : ℕ × ℕ) → placeCall layout32 standard s a k ≡ a
-
-pub demand-1-lookup : (s : List ℕ) (k r : ℕ) → lookupCall layout32 standard s k ≡ refuses r → LookupRefused s k r
-demand-1-lookup s k r e =
-    let c = lookup-refused layout32 standard s k r e in
-    record { check = c; part = bytes-refuses layout32 standard s r c k; place = λ a. place-refuses layout32 standard s r c a k }
-
--- A walk that refuses: only where check does, and the lent lists stay.
-pub record WalkRefused (s ks vs : List ℕ) (r : ℕ) : Type 0 where
-  pub check : counted (checkArchive layout32 standard s) ≡ refuses r
-  pub keys : walkKeys layout32 standard s ks vs ≡ ks
-  pub values : walkValues layout32 standard s ks vs ≡ vs
-
-pub demand-1-walk : (s ks vs : List ℕ) (r : ℕ) → walkCall layout32 standard s ks vs ≡ refuses r → WalkRefused s ks vs r
-demand-1-walk s ks vs r e =
-    let c = walk-refused layout32 standard s ks vs r e in
-    record { check = c; keys = walk-keys-refuses layout32 standard s r c ks vs; values = walk-values-refuses layout32 standard s r c ks vs }
-
--- A range that refuses: only where certify does, so by 1 to 9.
-pub record RangeRefused (s : List ℕ) (lo hi : Bound) (ks vs : List ℕ) (r : ℕ) : Type 0 where
-  pub certifying : counted (certify layout32 standard s) ≡ refuses r
-  pub keys : rangeKeys layout32 standard s lo hi ks vs ≡ ks
-  pub values : rangeValues layout32 standard s lo hi ks vs ≡ vs
-
-pub demand-1-range : (s : List ℕ) (lo hi : Bound) (ks vs : List ℕ) (r : ℕ) → rangeCall layout32 standard s lo hi ks vs ≡ refuses r
-    → RangeRefused s lo hi ks vs r
-demand-1-range s lo hi ks vs r e =
-    let c = range-refused layout32 standard s lo hi ks vs r e in
-    record {
-      certifying = c;
-      keys = range-keys-refuses layout32 standard s r c lo hi ks vs;
-      values = range-values-refuses layout32 standard s r c lo hi ks vs;
-    }
-
--- A column query that refuses: where certify does, or by 18.
-pub record ColumnRefused (s : List ℕ) (P : Packing) (exam eye : ℕ) (a b : ℤ) (ks vs : List ℕ) (r : ℕ) : Type 0 where
-  pub number : (counted (certify layout32 standard s) ≡ refuses r) ⊎ (r ≡ 18)
-  pub keys : columnKeys layout32 standard s P exam eye a b ks vs ≡ ks
-  pub values : columnValues layout32 standard s P exam eye a b ks vs ≡ vs
-
-pub demand-1-column : (s : List ℕ) (P : Packing) (exam eye : ℕ) (a b : ℤ) (ks vs : List ℕ) (r : ℕ)
-    → columnCall layout32 standard s P exam eye a b ks vs ≡ refuses r → ColumnRefused s P exam eye a b ks vs r
-demand-1-column s P exam eye a b ks vs r e =
-    let (n, kept) = column-refused-by layout32 standard s P exam eye a b ks vs r e in
-    record { number = n; keys = kept .0; values = kept .1 }
-
--- A build refuses only by 10 to 14, and leaves the output.
-pub demand-1-build : (ks vs : List ℕ) (h room : ℕ) → RefusesBy 10 14 (build layout32 ks vs h room)
-demand-1-build ks vs h room = build-by layout32 (lit≤ tt) (lit≤ tt) (lit≤ tt) ks vs h room
-
-pub demand-1-output : (ks vs : List ℕ) (h : ℕ) (out : List ℕ) (r : ℕ) → build layout32 ks vs h (length out) ≡ refuses r → outAfter layout32 ks vs h out ≡ out
-unfolding outAfter
-demand-1-output ks vs h out r e = ap (λ (a : Answer ℕ). outBy layout32 a h (pairs ks vs) out) e
-
--- The length for so many entries is refused only by 11 and 13.
-pub demand-1-length : (n h r : ℕ) → buildLength layout32 n h ≡ refuses r → (r ≡ 11) ⊎ (r ≡ 13)
-demand-1-length n h r e = length-by layout32 (lit≤ tt) (lit≤ tt) (lit≤ tt) n h r e
 
 -- The parts and the packing are lent nothing. The absent mark is asked for a position, which has 64 bits.
 pub demand-1-signed-offset : (from to : ℕ) → RefusesBy 15 15 (signedOffset from to)
@@ -167,134 +77,224 @@ demand-1-pack P exam eye x y presentation = pack-by P exam eye x y presentation
 pub demand-1-unpack : (P : Packing) (k : ℕ) → k < 2 ^ 64 → let f = fieldsOf P k in packKey P (f .examination) (f .eye) (f .x) (f .y) (f .presentation) ≡ gives k
 demand-1-unpack P k l = pack-unpack P k l
 
--- ---- demand 2: "they equal the crate's .. proved from its definitions". The definitions of check, lookup and walk are transliterations of the
--- crate's `verify`, `get_key_value_raw` and `visit_raw`; the range and the builder are proved equal to theirs.
+-- ---- the calls that build, check or read, at the layout of the width that the caller names
 
--- What the crate's iterator gives, on certified bytes and bounds that do not cross.
-pub demand-2-range : (s : List ℕ) (n : ℕ) → counted (certify layout32 standard s) ≡ gives n → (lo hi : Bound) → crosses lo hi ≡ false
-    → Yields layout32 standard s (new layout32 standard s lo hi) (range layout32 standard s lo hi)
-demand-2-range s n e lo hi c = range-yields layout32 standard s (lit≤ tt) (is-certified layout32 standard s n e) lo hi c
+module _ (w : Width) where
+  abbrev L : Layout
+  L = atWidth w
 
--- The crate's loop meets no `unwrap` of nothing and leaves the archive's bytes.
-pub record Streamed (header : List ℕ) (es : List KeyValue) : Type 0 where
-  pub panics : (p : ℕ) → serialize layout32 es p .panics ≡ false
-  pub bytes : streamed layout32 header es ≡ archive layout32 header es
+  -- Check refuses only by 1 to 7, certify by 1 to 9.
+  pub demand-1-check : (s : List ℕ) → RefusesBy 1 7 (counted (checkArchive L standard s))
+  demand-1-check s = check-by L standard s
 
-pub demand-2-build : (header : List ℕ) (es : List KeyValue) → Streamed header es
-demand-2-build header es = record { panics = never-panics layout32 (lit≤ tt) es; bytes = streamed-archive layout32 (lit≤ tt) header es }
+  pub demand-1-certify : (s : List ℕ) → RefusesBy 1 9 (counted (certify L standard s))
+  demand-1-certify s = certify-by L standard s
 
--- ---- demand 3, "Whatever bytes are handed in as an archive: if the check accepts them"
+  -- What check refuses, every reader refuses, by the same number; what certify refuses, range and column.
+  pub record CheckRefused (s : List ℕ) (r : ℕ) : Type 0 where
+    pub certifying : counted (certify L standard s) ≡ refuses r
+    pub lookup : (k : ℕ) → lookupCall L standard s k ≡ refuses r
+    pub walk : (ks vs : List ℕ) → walkCall L standard s ks vs ≡ refuses r
 
-module _ (s : List ℕ) (n : ℕ) (accepts : counted (checkArchive layout32 standard s) ≡ gives n) where
-  -- "no reachable node leaves the bytes before the record, is misaligned"
-  pub demand-3-inside : {f : ℕ} → Field layout32 s f → Lands layout32 s 0 (root layout32 s) f
-  demand-3-inside x = field-lands layout32 standard s (is-archive layout32 standard s n accepts) x
+  pub demand-1-check-refused : (s : List ℕ) (r : ℕ) → counted (checkArchive L standard s) ≡ refuses r → CheckRefused s r
+  demand-1-check-refused s r e =
+      let c = certify-refuses L standard s r e in
+      record { certifying = c; lookup = lookup-refuses L standard s r e; walk = walk-refuses L standard s r e }
 
-  -- ", shares a byte with another"
-  pub demand-3-apart : {f f′ : ℕ} → Field layout32 s f → Field layout32 s f′ → f ≢ f′ → Apart layout32 s f f′
-  demand-3-apart x x′ ne = field-apart layout32 standard s (is-archive layout32 standard s n accepts) x x′ ne
+  pub record CertifyRefused (s : List ℕ) (r : ℕ) : Type 0 where
+    pub range : (lo hi : Bound) (ks vs : List ℕ) → rangeCall L standard s lo hi ks vs ≡ refuses r
+    pub column : (P : Packing) (exam eye : ℕ) (a b : ℤ) (ks vs : List ℕ) → columnCall L standard s P exam eye a b ks vs ≡ refuses r
 
-  -- "or is reached twice"
-  pub demand-3-once : {f f′ q : ℕ} → Field layout32 s f → Field layout32 s f′ → target layout32 s f ≡ at q → target layout32 s f′ ≡ at q → f ≡ f′
-  demand-3-once x x′ e e′ = field-once layout32 standard s (is-archive layout32 standard s n accepts) x x′ e e′
+  pub demand-1-certify-refused : (s : List ℕ) (r : ℕ) → counted (certify L standard s) ≡ refuses r → CertifyRefused s r
+  demand-1-certify-refused s r e =
+      record { range = range-refuses L standard s r e; column = λ P exam eye a b ks vs. column-uncertified L standard s P exam eye a b ks vs r e }
 
-  -- "the archive's list .. has exactly the recorded count", which check answers
-  pub demand-3-count : (length (list layout32 standard s) ≡ n) × (n ≡ recorded layout32 s)
-  demand-3-count =
-      let e = is-recorded layout32 standard s n accepts in
-      (list-length layout32 standard s (is-archive layout32 standard s n accepts) ∙ sym e, e)
+  -- A lookup that refuses: only where check does, so by 1 to 7. The second form then returns the empty part, at the archive's start.
+  pub record LookupRefused (s : List ℕ) (k r : ℕ) : Type 0 where
+    pub check : counted (checkArchive L standard s) ≡ refuses r
+    pub part : bytesCall L standard s k ≡ []
+    pub place : (a : ℕ × ℕ) → placeCall L standard s a k ≡ a
 
-  -- "and the walk writes it in order as far as the lent lists go"
-  pub record WalkWrites (ks vs : List ℕ) : Type 0 where
-    pub answer : walkCall layout32 standard s ks vs ≡ gives (record { written = written (list layout32 standard s) ks vs; count = n })
-    pub keys : walkKeys layout32 standard s ks vs ≡ keysAfter (list layout32 standard s) ks vs
-    pub values : walkValues layout32 standard s ks vs ≡ valuesAfter (list layout32 standard s) ks vs
+  pub demand-1-lookup : (s : List ℕ) (k r : ℕ) → lookupCall L standard s k ≡ refuses r → LookupRefused s k r
+  demand-1-lookup s k r e =
+      let c = lookup-refused L standard s k r e in
+      record { check = c; part = bytes-refuses L standard s r c k; place = λ a. place-refuses L standard s r c a k }
 
-  pub demand-3-walk : (ks vs : List ℕ) → WalkWrites ks vs
-  demand-3-walk ks vs =
-      record {
-        answer = walk-accepted layout32 standard s n accepts ks vs;
-        keys = walk-keys-accepted layout32 standard s n accepts ks vs;
-        values = walk-values-accepted layout32 standard s n accepts ks vs;
-      }
+  -- A walk that refuses: only where check does, and the lent lists stay.
+  pub record WalkRefused (s ks vs : List ℕ) (r : ℕ) : Type 0 where
+    pub check : counted (checkArchive L standard s) ≡ refuses r
+    pub keys : walkKeys L standard s ks vs ≡ ks
+    pub values : walkValues L standard s ks vs ≡ vs
 
-  -- "Accepted bytes are certified exactly when that list's keys strictly ascend and no reachable node is hollow."
-  pub demand-3-certified : (counted (certify layout32 standard s) ≡ gives n) ↔ (Ascending (list layout32 standard s) × Solid layout32 s)
-  demand-3-certified = certified-exactly layout32 standard s n accepts
+  pub demand-1-walk : (s ks vs : List ℕ) (r : ℕ) → walkCall L standard s ks vs ≡ refuses r → WalkRefused s ks vs r
+  demand-1-walk s ks vs r e =
+      let c = walk-refused L standard s ks vs r e in
+      record { check = c; keys = walk-keys-refuses L standard s r c ks vs; values = walk-values-refuses L standard s r c ks vs }
 
--- "On certified ones"
-module _ (s : List ℕ) (n : ℕ) (certifies : counted (certify layout32 standard s) ≡ gives n) where
-  -- "for every key, lookup finds exactly the list's entry with that key, or nothing": what it answers; that the part of the second form is the eight
-  -- bytes at that entry's position, and where it stands; that an entry which it finds is the list's and has the key, that every entry of the list is
-  -- found by its key, and that where it finds nothing no entry has the key.
-  pub record LookupFinds (k : ℕ) : Type 0 where
-    pub answer : lookupCall layout32 standard s k ≡ gives (find k (list layout32 standard s))
-    pub part : bytesCall layout32 standard s k ≡ bytesOf s (find k (list layout32 standard s))
-    pub place : (a : ℕ × ℕ) → placeCall layout32 standard s a k ≡ placeOf a (find k (list layout32 standard s))
-    pub hit : (e : Entry) → find k (list layout32 standard s) ≡ found e → In e (list layout32 standard s) × (e .key ≡ k)
-    pub only : (e : Entry) → In e (list layout32 standard s) → e .key ≡ k → find k (list layout32 standard s) ≡ found e
-    pub miss : find k (list layout32 standard s) ≡ nothing → (e : Entry) → In e (list layout32 standard s) → e .key ≢ k
+  -- A range that refuses: only where certify does, so by 1 to 9.
+  pub record RangeRefused (s : List ℕ) (lo hi : Bound) (ks vs : List ℕ) (r : ℕ) : Type 0 where
+    pub certifying : counted (certify L standard s) ≡ refuses r
+    pub keys : rangeKeys L standard s lo hi ks vs ≡ ks
+    pub values : rangeValues L standard s lo hi ks vs ≡ vs
 
-  pub demand-3-lookup : (k : ℕ) → LookupFinds k
-  demand-3-lookup k =
-      let C = is-certified layout32 standard s n certifies in
-      let a = certified-accepts layout32 standard s n certifies in
-      let e = lookup-certified layout32 standard s C k in
-      let l = list layout32 standard s in
-      record {
-        answer = lookup-accepted layout32 standard s n a k ∙ ap gives e;
-        part = bytes-accepted layout32 standard s n a k ∙ ap (bytesOf s) e;
-        place = λ p. place-accepted layout32 standard s n a p k ∙ ap (placeOf p) e;
-        hit = find-found k l;
-        only = λ x i ek. ap (λ (j : ℕ). find j l) (sym ek) ∙ find-one l (C .ascending) x i;
-        miss = find-nothing k l;
-      }
+  pub demand-1-range : (s : List ℕ) (lo hi : Bound) (ks vs : List ℕ) (r : ℕ) → rangeCall L standard s lo hi ks vs ≡ refuses r
+      → RangeRefused s lo hi ks vs r
+  demand-1-range s lo hi ks vs r e =
+      let c = range-refused L standard s lo hi ks vs r e in
+      record { certifying = c; keys = range-keys-refuses L standard s r c lo hi ks vs; values = range-values-refuses L standard s r c lo hi ks vs }
 
-  -- "and for every two bounds the range gives the number of entries that meet both and writes exactly these, in order as far as the lent lists go"
-  pub record RangeWrites (lo hi : Bound) (ks vs : List ℕ) : Type 0 where
-    pub answer : rangeCall layout32 standard s lo hi ks vs
-        ≡ gives (record { written = written (range layout32 standard s lo hi) ks vs; matching = length (range layout32 standard s lo hi) })
-    pub keys : rangeKeys layout32 standard s lo hi ks vs ≡ keysAfter (range layout32 standard s lo hi) ks vs
-    pub values : rangeValues layout32 standard s lo hi ks vs ≡ valuesAfter (range layout32 standard s lo hi) ks vs
+  -- A column query that refuses: where certify does, or by 18.
+  pub record ColumnRefused (s : List ℕ) (P : Packing) (exam eye : ℕ) (a b : ℤ) (ks vs : List ℕ) (r : ℕ) : Type 0 where
+    pub number : (counted (certify L standard s) ≡ refuses r) ⊎ (r ≡ 18)
+    pub keys : columnKeys L standard s P exam eye a b ks vs ≡ ks
+    pub values : columnValues L standard s P exam eye a b ks vs ≡ vs
 
-  pub demand-3-range : (lo hi : Bound) (ks vs : List ℕ) → RangeWrites lo hi ks vs
-  demand-3-range lo hi ks vs =
-      record {
-        answer = range-certified layout32 standard s n certifies lo hi ks vs;
-        keys = range-keys-certified layout32 standard s n certifies lo hi ks vs;
-        values = range-values-certified layout32 standard s n certifies lo hi ks vs;
-      }
+  pub demand-1-column : (s : List ℕ) (P : Packing) (exam eye : ℕ) (a b : ℤ) (ks vs : List ℕ) (r : ℕ)
+      → columnCall L standard s P exam eye a b ks vs ≡ refuses r → ColumnRefused s P exam eye a b ks vs r
+  demand-1-column s P exam eye a b ks vs r e =
+      let (n, kept) = column-refused-by L standard s P exam eye a b ks vs r e in
+      record { number = n; keys = kept .0; values = kept .1 }
 
--- "And for every strictly ascending list that the builder takes": it takes exactly what 10 to 14 let through.
-pub demand-3-takes : (ks vs : List ℕ) (h room n : ℕ) → (build layout32 ks vs h room ≡ gives n) ↔ Taken layout32 ks vs h room n
-demand-3-takes ks vs h room n = (taken layout32 ks vs h room n, wide-gives layout32 ks vs h room (lit≤ tt) (lit≤ tt) (lit≤ tt) n)
+  -- A build refuses only by 10 to 14 and 16, and leaves the output.
+  pub demand-1-build : (ks vs : List ℕ) (h room r : ℕ) → build L ks vs h room ≡ refuses r → ((10 ≤ r) × (r ≤ 14)) ⊎ (r ≡ 16)
+  demand-1-build ks vs h room r e = build-by L (lit≤ tt) (lit≤ tt) ks vs h room r e
 
--- Where it gives an end, that is the length for so many entries.
-pub demand-3-length : (ks vs : List ℕ) (h room n : ℕ) → build layout32 ks vs h room ≡ gives n → buildLength layout32 (length ks) h ≡ gives n
-demand-3-length ks vs h room n e = length-given layout32 ks vs h room n e
+  pub demand-1-output : (ks vs : List ℕ) (h : ℕ) (out : List ℕ) (r : ℕ) → build L ks vs h (length out) ≡ refuses r → outAfter L ks vs h out ≡ out
+  unfolding outAfter
+  demand-1-output ks vs h out r e = ap (λ (a : Answer ℕ). outBy L a h (pairs ks vs) out) e
 
--- ", behind whatever header, the archive is certified, and its list has the given keys and values, entry for entry." The archive is the output's first n
--- bytes as the builder left them, the header in front; the bytes past it are as they were; 15 and 16 never arise.
-module _ (ks vs : List ℕ) (out : List ℕ) (h n : ℕ) (wk : AllWords ks) (wv : AllWords vs) (takes : build layout32 ks vs h (length out) ≡ gives n) where
-  pub record BuiltArchive : Type 0 where
-    pub certified : counted (certify layout32 standard (take n (outAfter layout32 ks vs h out))) ≡ gives (length ks)
-    pub keys : map (λ (e : Entry). e .key) (list layout32 standard (take n (outAfter layout32 ks vs h out))) ≡ ks
-    pub values : map (λ (e : Entry). e .value) (list layout32 standard (take n (outAfter layout32 ks vs h out))) ≡ vs
-    pub bytes : take n (outAfter layout32 ks vs h out) ≡ archive layout32 (take h out) (pairs ks vs)
-    pub output : outAfter layout32 ks vs h out ≡ archive layout32 (take h out) (pairs ks vs) ++ drop n out
-    pub offsets : archiveEmplaces layout32 (treeOf layout32 (pairs ks vs)) (start layout32 (treeOf layout32 (pairs ks vs)) h) ≡ true
+  -- The length for so many entries is refused only by 11, 13 and 16.
+  pub demand-1-length : (n h r : ℕ) → buildLength L n h ≡ refuses r → (r ≡ 11) ⊎ ((r ≡ 13) ⊎ (r ≡ 16))
+  demand-1-length n h r e = length-by L (lit≤ tt) (lit≤ tt) n h r e
 
-  pub demand-3-build : BuiltArchive
-  demand-3-build =
-      let T = taken layout32 ks vs h (length out) n takes in
-      let eh : length (take h out) ≡ h = length-take-le h out (omega (arith, T .fits, T .size)) in
-      let C = build-certifies layout32 (take h out) ks vs (length out) n wk wv (ap (λ (x : ℕ). build layout32 ks vs x (length out)) eh ∙ takes) in
-      let b = build-archive layout32 ks vs h out n takes in
-      record {
-        certified = ap (λ (s : List ℕ). counted (certify layout32 standard s)) b ∙ C .certified;
-        keys = ap (λ (s : List ℕ). map (λ (e : Entry). e .key) (list layout32 standard s)) b ∙ C .keys;
-        values = ap (λ (s : List ℕ). map (λ (e : Entry). e .value) (list layout32 standard s)) b ∙ C .values;
-        bytes = b;
-        output = build-output layout32 ks vs h out n takes;
-        offsets = layout-takes layout32 ks vs h (length out) n takes .offsets;
-      }
+  -- ---- demand 2: "they equal the crate's .. proved from its definitions". The definitions of check, lookup and walk are transliterations of the
+  -- crate's `verify`, `get_key_value_raw` and `visit_raw`; the range and the builder are proved equal to theirs.
+
+  -- What the crate's iterator gives, on certified bytes and bounds that do not cross.
+  pub demand-2-range : (s : List ℕ) (n : ℕ) → counted (certify L standard s) ≡ gives n → (lo hi : Bound) → crosses lo hi ≡ false
+      → Yields L standard s (new L standard s lo hi) (range L standard s lo hi)
+  demand-2-range s n e lo hi c = range-yields L standard s (lit≤ tt) (is-certified L standard s n e) lo hi c
+
+  -- The crate's loop meets no `unwrap` of nothing and leaves the archive's bytes.
+  pub record Streamed (header : List ℕ) (es : List KeyValue) : Type 0 where
+    pub panics : (p : ℕ) → serialize L es p .panics ≡ false
+    pub bytes : streamed L header es ≡ archive L header es
+
+  pub demand-2-build : (header : List ℕ) (es : List KeyValue) → Streamed header es
+  demand-2-build header es = record { panics = never-panics L (lit≤ tt) es; bytes = streamed-archive L (lit≤ tt) header es }
+
+  -- ---- demand 3, "Whatever bytes are handed in as an archive: if the check accepts them"
+
+  module _ (s : List ℕ) (n : ℕ) (accepts : counted (checkArchive L standard s) ≡ gives n) where
+    -- "no reachable node leaves the bytes before the record, is misaligned"
+    pub demand-3-inside : {f : ℕ} → Field L s f → Lands L s 0 (root L s) f
+    demand-3-inside x = field-lands L standard s (is-archive L standard s n accepts) x
+
+    -- ", shares a byte with another"
+    pub demand-3-apart : {f f′ : ℕ} → Field L s f → Field L s f′ → f ≢ f′ → Apart L s f f′
+    demand-3-apart x x′ ne = field-apart L standard s (is-archive L standard s n accepts) x x′ ne
+
+    -- "or is reached twice"
+    pub demand-3-once : {f f′ q : ℕ} → Field L s f → Field L s f′ → target L s f ≡ at q → target L s f′ ≡ at q → f ≡ f′
+    demand-3-once x x′ e e′ = field-once L standard s (is-archive L standard s n accepts) x x′ e e′
+
+    -- "the archive's list .. has exactly the recorded count", which check answers
+    pub demand-3-count : (length (list L standard s) ≡ n) × (n ≡ recorded L s)
+    demand-3-count =
+        let e = is-recorded L standard s n accepts in
+        (list-length L standard s (is-archive L standard s n accepts) ∙ sym e, e)
+
+    -- "and the walk writes it in order as far as the lent lists go"
+    pub record WalkWrites (ks vs : List ℕ) : Type 0 where
+      pub answer : walkCall L standard s ks vs ≡ gives (record { written = written (list L standard s) ks vs; count = n })
+      pub keys : walkKeys L standard s ks vs ≡ keysAfter (list L standard s) ks vs
+      pub values : walkValues L standard s ks vs ≡ valuesAfter (list L standard s) ks vs
+
+    pub demand-3-walk : (ks vs : List ℕ) → WalkWrites ks vs
+    demand-3-walk ks vs =
+        record {
+          answer = walk-accepted L standard s n accepts ks vs;
+          keys = walk-keys-accepted L standard s n accepts ks vs;
+          values = walk-values-accepted L standard s n accepts ks vs;
+        }
+
+    -- "Accepted bytes are certified exactly when that list's keys strictly ascend and no reachable node is hollow."
+    pub demand-3-certified : (counted (certify L standard s) ≡ gives n) ↔ (Ascending (list L standard s) × Solid L s)
+    demand-3-certified = certified-exactly L standard s n accepts
+
+  -- "On certified ones"
+  module _ (s : List ℕ) (n : ℕ) (certifies : counted (certify L standard s) ≡ gives n) where
+    -- "for every key, lookup finds exactly the list's entry with that key, or nothing": what it answers; that the part of the second form is the eight
+    -- bytes at that entry's position, and where it stands; that an entry which it finds is the list's and has the key, that every entry of the list is
+    -- found by its key, and that where it finds nothing no entry has the key.
+    pub record LookupFinds (k : ℕ) : Type 0 where
+      pub answer : lookupCall L standard s k ≡ gives (find k (list L standard s))
+      pub part : bytesCall L standard s k ≡ bytesOf s (find k (list L standard s))
+      pub place : (a : ℕ × ℕ) → placeCall L standard s a k ≡ placeOf a (find k (list L standard s))
+      pub hit : (e : Entry) → find k (list L standard s) ≡ found e → In e (list L standard s) × (e .key ≡ k)
+      pub only : (e : Entry) → In e (list L standard s) → e .key ≡ k → find k (list L standard s) ≡ found e
+      pub miss : find k (list L standard s) ≡ nothing → (e : Entry) → In e (list L standard s) → e .key ≢ k
+
+    pub demand-3-lookup : (k : ℕ) → LookupFinds k
+    demand-3-lookup k =
+        let C = is-certified L standard s n certifies in
+        let a = certified-accepts L standard s n certifies in
+        let e = lookup-certified L standard s C k in
+        let l = list L standard s in
+        record {
+          answer = lookup-accepted L standard s n a k ∙ ap gives e;
+          part = bytes-accepted L standard s n a k ∙ ap (bytesOf s) e;
+          place = λ p. place-accepted L standard s n a p k ∙ ap (placeOf p) e;
+          hit = find-found k l;
+          only = λ x i ek. ap (λ (j : ℕ). find j l) (sym ek) ∙ find-one l (C .ascending) x i;
+          miss = find-nothing k l;
+        }
+
+    -- "and for every two bounds the range gives the number of entries that meet both and writes exactly these, in order as far as the lent lists go"
+    pub record RangeWrites (lo hi : Bound) (ks vs : List ℕ) : Type 0 where
+      pub answer : rangeCall L standard s lo hi ks vs
+          ≡ gives (record { written = written (range L standard s lo hi) ks vs; matching = length (range L standard s lo hi) })
+      pub keys : rangeKeys L standard s lo hi ks vs ≡ keysAfter (range L standard s lo hi) ks vs
+      pub values : rangeValues L standard s lo hi ks vs ≡ valuesAfter (range L standard s lo hi) ks vs
+
+    pub demand-3-range : (lo hi : Bound) (ks vs : List ℕ) → RangeWrites lo hi ks vs
+    demand-3-range lo hi ks vs =
+        record {
+          answer = range-certified L standard s n certifies lo hi ks vs;
+          keys = range-keys-certified L standard s n certifies lo hi ks vs;
+          values = range-values-certified L standard s n certifies lo hi ks vs;
+        }
+
+  -- "And for every strictly ascending list that the builder takes": it takes exactly what 10 to 14 let through, with offsets that fit the width.
+  pub demand-3-takes : (ks vs : List ℕ) (h room n : ℕ) → (build L ks vs h room ≡ gives n) ↔ (LayoutTakes L ks vs h × Taken L ks vs h room n)
+  demand-3-takes ks vs h room n = (both L ks vs h room n, λ t. taken-gives L ks vs h room n (t .0) (t .1))
+
+  -- Where it gives an end, that is the length for so many entries.
+  pub demand-3-length : (ks vs : List ℕ) (h room n : ℕ) → build L ks vs h room ≡ gives n → buildLength L (length ks) h ≡ gives n
+  demand-3-length ks vs h room n e = length-given L ks vs h room n e
+
+  -- ", behind whatever header, the archive is certified, and its list has the given keys and values, entry for entry." The archive is the output's first n
+  -- bytes as the builder left them, the header in front; the bytes past it are as they were; neither 15 nor 16 arises in it.
+  module _ (ks vs : List ℕ) (out : List ℕ) (h n : ℕ) (wk : AllWords ks) (wv : AllWords vs) (takes : build L ks vs h (length out) ≡ gives n) where
+    pub record BuiltArchive : Type 0 where
+      pub certified : counted (certify L standard (take n (outAfter L ks vs h out))) ≡ gives (length ks)
+      pub keys : map (λ (e : Entry). e .key) (list L standard (take n (outAfter L ks vs h out))) ≡ ks
+      pub values : map (λ (e : Entry). e .value) (list L standard (take n (outAfter L ks vs h out))) ≡ vs
+      pub bytes : take n (outAfter L ks vs h out) ≡ archive L (take h out) (pairs ks vs)
+      pub output : outAfter L ks vs h out ≡ archive L (take h out) (pairs ks vs) ++ drop n out
+      pub offsets : archiveEmplaces L (treeOf L (pairs ks vs)) (start L (treeOf L (pairs ks vs)) h) ≡ true
+
+    pub demand-3-build : BuiltArchive
+    demand-3-build =
+        let T = taken L ks vs h (length out) n takes in
+        let eh : length (take h out) ≡ h = length-take-le h out (omega (arith, T .fits, T .size)) in
+        let C = build-certifies L (take h out) ks vs (length out) n wk wv (ap (λ (x : ℕ). build L ks vs x (length out)) eh ∙ takes) in
+        let b = build-archive L ks vs h out n takes in
+        record {
+          certified = ap (λ (s : List ℕ). counted (certify L standard s)) b ∙ C .certified;
+          keys = ap (λ (s : List ℕ). map (λ (e : Entry). e .key) (list L standard s)) b ∙ C .keys;
+          values = ap (λ (s : List ℕ). map (λ (e : Entry). e .value) (list L standard s)) b ∙ C .values;
+          bytes = b;
+          output = build-output L ks vs h out n takes;
+          offsets = layout-takes L ks vs h (length out) n takes .offsets;
+        }

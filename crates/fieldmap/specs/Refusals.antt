@@ -1,14 +1,14 @@
--- By which numbers each call refuses: a reader as check or certify, whichever it runs, the column query also by 18, the builder by 10 to 14, its length by
--- 11 and 13, the parts by 15 to 17, key packing by 18. Assumes nothing.
+-- By which numbers each call refuses: a reader as check or certify, whichever it runs, the column query also by 18, the builder by 10 to 14 and 16, its
+-- length by 11, 13 and 16, the parts by 15 to 17, key packing by 18. Assumes nothing.
 use Prim.Native.Nat.{ℕ, _+_, _^_, _≤_, _<_}
-use mathlib.Core.Path.{_≡_, refl, sym, ap, _∙_}
+use mathlib.Core.Path.{_≡_, refl, sym, ap, subst, _∙_}
 use mathlib.Core.Logic.{_⊎_, inl, inr}
 use mathlib.Core.Bool.{Bool, true, false}
 use mathlib.Core.List.{List}
 use native.Mathlib.Omega.{arith}
-use lib.ListN.{length}
+use lib.ListN.{length, replicate}
 use lib.IntN.{ℤ, subℕ}
-use lib.Dec.{ltb, leb, eqb}
+use lib.Dec.{ltb, leb, eqb, lit≤}
 use lib.Signed.{mag}
 use borrow.Author.Tests.{ltb-true, ltb-false}
 use Rattle.format.specs.declared.Bound.{Bound}
@@ -20,11 +20,13 @@ use Rattle.format.specs.Align.{isAlignment, zerosTo, alignStep}
 use Rattle.format.specs.Key.{Column, packKey, columnBounds}
 use Rattle.format.specs.Check.{counted, checkArchive}
 use Rattle.format.specs.Certify.{certify}
-use Rattle.format.specs.Build.{treeOf, behind, pairs, rises, build, buildLength}
+use Rattle.format.specs.Build.{treeOf, start, behind, pairs, rises, build, buildLength}
+use Rattle.format.specs.Offsets.{archiveEmplaces}
 use Rattle.format.specs.Calls.{lookupCall, walkCall, rangeCall, columnCall, columnKeys, columnValues}
 use Rattle.format.specs.Laws.Numbers.RelPtr.{absent-last, stored-15, offset-behind, fits-refused}
 use Rattle.format.specs.Laws.Check.Refusals.{check-by, certify-by}
 use Rattle.format.specs.Laws.Build.BytesAt.{absent-fits}
+use Rattle.format.specs.Laws.Build.Taken.{passes, in-range}
 use Rattle.format.specs.Laws.Build.Certifies.{wide-build}
 use Rattle.format.specs.Laws.Build.Lengths.{wide-length}
 use Rattle.format.specs.Laws.Calls.Accepted.{lookup-refuses, lookup-accepted, walk-refuses, walk-accepted}
@@ -43,9 +45,14 @@ same-number e = cc
 by-gives : {A : Type 0} {m n : ℕ} (a : A) → RefusesBy m n (gives a)
 by-gives a r e = absurd (given e)
 
+-- Behind a test that refuses by k, of whatever numbers.
+by-test : {A : Type 0} (P : ℕ → Type 0) (b : Bool) (k : ℕ) (a : Answer A) → P k → ((r : ℕ) → a ≡ refuses r → P r)
+    → (r : ℕ) → provided b k a ≡ refuses r → P r
+by-test P true k a p u r e = u r e
+by-test P false k a p u r e = subst P (same-number e) p
+
 by-provided : {A : Type 0} {m n : ℕ} (b : Bool) (k : ℕ) (a : Answer A) → m ≤ k → k ≤ n → RefusesBy m n a → RefusesBy m n (provided b k a)
-by-provided true k a l h u r e = u r e
-by-provided false k a l h u r e = omega (arith, same-number e)
+by-provided {m = m} {n = n} b k a l h u = by-test (λ (r : ℕ). (m ≤ r) × (r ≤ n)) b k a (l, h) u
 
 by-then : {A B : Type 0} (m n : ℕ) (a : Answer A) (f : A → Answer B) → RefusesBy m n a → ((x : A) → RefusesBy m n (f x)) → RefusesBy m n (andThen a f)
 by-then m n (gives x) f u v r e = v x r e
@@ -101,34 +108,77 @@ columns-by P exam eye a b =
 
 -- ---- the builder
 
--- With 32 and 64 bits neither 24 nor 16 arises.
-module _ (L : Layout) (least : 3 ≤ L .entries) (most : L .entries ≤ 15) (w : 4 ≤ pointer L) where
-  pub build-by : (ks vs : List ℕ) (h room : ℕ) → RefusesBy 10 14 (build L ks vs h room)
-  build-by ks vs h room r e = tests r (sym (wide-build L ks vs h room least most w) ∙ e)
+module _ (L : Layout) (least : 3 ≤ L .entries) (most : L .entries ≤ 15) where
+  -- The numbers of a build, and of its length.
+  abbrev OfBuild : ℕ → Type 0
+  OfBuild r = ((10 ≤ r) × (r ≤ 14)) ⊎ (r ≡ 16)
+
+  abbrev OfLength : ℕ → Type 0
+  OfLength r = (r ≡ 11) ⊎ ((r ≡ 13) ⊎ (r ≡ 16))
+
+  pub build-by : (ks vs : List ℕ) (h room r : ℕ) → build L ks vs h room ≡ refuses r → OfBuild r
+  unfolding build
+  build-by ks vs h room r e =
+      let t = treeOf L (pairs ks vs) in
+      let n = h + length (behind L h t (length ks)) in
+      by-test OfBuild (eqb (length ks) (length vs)) 10 _ (inl (lit≤ tt, lit≤ tt))
+      (by-test OfBuild (leb (length ks) 40000) 11 _ (inl (lit≤ tt, lit≤ tt))
+      (by-test OfBuild (rises ks) 12 _ (inl (lit≤ tt, lit≤ tt))
+      (by-test OfBuild (leb h 4096) 13 _ (inl (lit≤ tt, lit≤ tt))
+      (by-test OfBuild (leb n room) 14 _ (inl (lit≤ tt, lit≤ tt))
+      (by-test OfBuild (archiveEmplaces L t (start L t h)) 16 (gives n) (inr refl) (λ r e. absurd (given e)))))))
+      r (sym (passes (in-range L least most) 24 _) ∙ e)
+
+  pub length-by : (n h r : ℕ) → buildLength L n h ≡ refuses r → OfLength r
+  unfolding buildLength
+  length-by n h r e =
+      let t = treeOf L (replicate n (record { key = 0; value = 0 })) in
+      by-test OfLength (leb n 40000) 11 _ (inl refl)
+      (by-test OfLength (leb h 4096) 13 _ (inr (inl refl))
+      (by-test OfLength (archiveEmplaces L t (start L t h)) 16 (gives (h + length (behind L h t n))) (inr (inr refl)) (λ r e. absurd (given e))))
+      r (sym (passes (in-range L least most) 24 _) ∙ e)
+
+  -- The same as two ends.
+  pub build-up-to : (ks vs : List ℕ) (h room : ℕ) → RefusesBy 10 16 (build L ks vs h room)
+  build-up-to ks vs h room r e = go (build-by ks vs h room r e)
     where
-      n : ℕ
-      n = h + length (behind L h (treeOf L (pairs ks vs)) (length ks))
+      go : OfBuild r → (10 ≤ r) × (r ≤ 16)
+      go (inl b) = omega (arith, b)
+      go (inr z) = omega arith
 
-      tests : RefusesBy 10 14
-          (provided (eqb (length ks) (length vs)) 10
-          (provided (leb (length ks) 40000) 11
-          (provided (rises ks) 12 (provided (leb h 4096) 13 (provided (leb n room) 14 (gives n))))))
-      tests =
-          by-provided (eqb (length ks) (length vs)) 10 _ (omega arith) (omega arith)
-          (by-provided (leb (length ks) 40000) 11 _ (omega arith) (omega arith)
-          (by-provided (rises ks) 12 _ (omega arith) (omega arith)
-          (by-provided (leb h 4096) 13 _ (omega arith) (omega arith) (by-provided (leb n room) 14 _ (omega arith) (omega arith) (by-gives n)))))
-
-  pub length-by : (n h r : ℕ) → buildLength L n h ≡ refuses r → (r ≡ 11) ⊎ (r ≡ 13)
-  length-by n h r e = by (leb n 40000) (leb h 4096) _ (sym (wide-length L n h least most w) ∙ e)
+  pub length-up-to : (n h : ℕ) → RefusesBy 11 16 (buildLength L n h)
+  length-up-to n h r e = go (length-by n h r e)
     where
-      by : (a b : Bool) (x : ℕ) → provided a 11 (provided b 13 (gives x)) ≡ refuses r → (r ≡ 11) ⊎ (r ≡ 13)
-      by true true x e = absurd (given e)
-      by true false x e = inr (sym (same-number e))
-      by false b x e = inl (sym (same-number e))
+      go : OfLength r → (11 ≤ r) × (r ≤ 16)
+      go (inl z) = omega arith
+      go (inr (inl z)) = omega arith
+      go (inr (inr z)) = omega arith
 
-  pub length-up-to : (n h : ℕ) → RefusesBy 11 13 (buildLength L n h)
-  length-up-to n h r e = elim (length-by n h r e) [ inl z ↦ (omega arith, omega arith) | inr z ↦ (omega arith, omega arith) ]
+  -- With 32 and 64 bits 16 does not arise.
+  module _ (w : 4 ≤ pointer L) where
+    pub wide-build-by : (ks vs : List ℕ) (h room : ℕ) → RefusesBy 10 14 (build L ks vs h room)
+    wide-build-by ks vs h room r e = tests r (sym (wide-build L ks vs h room least most w) ∙ e)
+      where
+        n : ℕ
+        n = h + length (behind L h (treeOf L (pairs ks vs)) (length ks))
+
+        tests : RefusesBy 10 14
+            (provided (eqb (length ks) (length vs)) 10
+            (provided (leb (length ks) 40000) 11
+            (provided (rises ks) 12 (provided (leb h 4096) 13 (provided (leb n room) 14 (gives n))))))
+        tests =
+            by-provided (eqb (length ks) (length vs)) 10 _ (omega arith) (omega arith)
+            (by-provided (leb (length ks) 40000) 11 _ (omega arith) (omega arith)
+            (by-provided (rises ks) 12 _ (omega arith) (omega arith)
+            (by-provided (leb h 4096) 13 _ (omega arith) (omega arith) (by-provided (leb n room) 14 _ (omega arith) (omega arith) (by-gives n)))))
+
+    abbrev OfWideLength : ℕ → Type 0
+    OfWideLength r = (r ≡ 11) ⊎ (r ≡ 13)
+
+    pub wide-length-by : (n h r : ℕ) → buildLength L n h ≡ refuses r → OfWideLength r
+    wide-length-by n h r e =
+        by-test OfWideLength (leb n 40000) 11 _ (inl refl) (by-test OfWideLength (leb h 4096) 13 _ (inr refl) (λ r e. absurd (given e))) r
+        (sym (wide-length L n h least most w) ∙ e)
 
 -- ---- the readers
 

@@ -1,15 +1,9 @@
 -- Layouts by numbers, and answers as words. Assumes nothing: these are definitions.
 use Prim.Native.Nat.{ℕ, _-_, _^_, min}
-use mathlib.Core.Bool.{true, false}
-use lib.Dec.{eqb}
-use Rattle.format.specs.declared.Width.{Width}
-use Rattle.format.specs.declared.Width.the-variants.{Two, Four, Eight}
 use Rattle.format.specs.declared.Layout.{Layout}
 use Rattle.format.specs.Refusal.{Answer, gives, refuses}
 use Rattle.format.specs.Calls.{Walk, Matched}
-
-abbrev pub widthBy : ℕ → Width
-widthBy n = elim (eqb n 2) [ true ↦ Two | false ↦ elim (eqb n 8) [ true ↦ Eight | false ↦ Four ] ]
+use Rattle.codes.specs.Answers.{widthBy}
 
 abbrev pub anyLayout : ℕ → ℕ → Layout
 anyLayout w e = record { width = widthBy w; entries = e }

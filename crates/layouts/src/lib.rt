@@ -6,7 +6,6 @@ use format::Bound;
 use format::CheckAnswer;
 use format::Layout;
 use format::Refusal;
-use format::Width;
 use readers::ManyAnswer;
 use readers::RangeAnswer;
 use readers::WalkAnswer;
@@ -21,27 +20,14 @@ ghost use Rattle.format.specs.Certify.{certify};
 ghost use Rattle.format.specs.Calls.{walkCall, walkKeys, walkValues, rangeCall, rangeKeys, rangeValues};
 ghost use Rattle.format.specs.Build.{build, outAfter};
 ghost use Rattle.lookups.specs.Many.{manyCall, manyValues};
-ghost use Rattle.layouts.specs.Named.{widthBy, layoutBy, anyLayout, word, written, matching};
+ghost use Rattle.layouts.specs.Named.{layoutBy, anyLayout, word, written, matching};
 
-// A width by its bytes: 2, 8, and 4 for any other number.
-fn width_of(bytes: u8) -> Width
-    ensures { λ r. ⌜ r ≡ widthBy bytes ⌝ }
-{
-    if bytes == 2 {
-        return Width::Two;
-    }
-    if bytes == 8 {
-        return Width::Eight;
-    }
-    Width::Four
-}
-
-// A layout by the width's bytes and the entries a node, at most 15.
-fn layout_of(bytes: u8, entries: usize) -> Layout
-    ensures { λ r. ⌜ (r ≡ layoutBy bytes entries) × (r .entries ≤ 15) ⌝ }
+// A layout by the width's bits and the entries a node, at most 15.
+fn layout_of(bits: u8, entries: usize) -> Layout
+    ensures { λ r. ⌜ (r ≡ layoutBy bits entries) × (r .entries ≤ 15) ⌝ }
 {
     Layout {
-        width: width_of(bytes),
+        width: codes::width(bits),
         entries: least(entries, 15),
     }
 }
@@ -167,7 +153,7 @@ pub extern "C" fn layouts_build(
     ensures bytes { λ r. ⌜ now (output .exit)
         ≡ outAfter (layoutOf (anyLayout width entries)) (now (keys .entry)) (now (values .entry)) header (now (output .entry)) ⌝ }
 {
-    let width = width_of(width);
+    let width = codes::width(width);
     let layout = Layout { width, entries };
     match builder::build::build(output, layout, header, keys, values) {
         BuildAnswer::Built(end) => end as u64,

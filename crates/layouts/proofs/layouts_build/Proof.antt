@@ -24,20 +24,20 @@ returns : tie.Need-returns
 returns c =
     let told : tie.After-end = search in
     let call : tie.After-build = search in
-    let named : tie.After-width-of = search in
+    let named : tie.After-width = search in
     let start : tie.Start = search in
     let (answer, bytes) = call .build .ensures in
-    subst (Promised start (told .end .given .0 .0) _) (named .width-of .ensures)
+    subst (Promised start (told .end .given .0 .0) _) (named .width .ensures)
     (ap (word (λ (n : ℕ). n)) (sym (ap builtOf (told .end .given .1)) ∙ answer), bytes)
 
 returns-2 : tie.Need-returns-2
 returns-2 c =
     let told : tie.After-why = search in
     let call : tie.After-build = search in
-    let named : tie.After-width-of = search in
+    let named : tie.After-width = search in
     let start : tie.Start = search in
     let (answer, bytes) = call .build .ensures in
-    subst (Promised start (c .refused .result) _) (named .width-of .ensures)
+    subst (Promised start (c .refused .result) _) (named .width .ensures)
     (c .refused .ensures ∙ ap (word (λ (n : ℕ). n)) (sym (ap builtOf (told .why .given .1)) ∙ answer), bytes)
 
 pub layouts-build-spec : {M : Type 1} → statement M

@@ -38,17 +38,17 @@ plan-of-requires c κs = let range : tie.Else1 = search in (named (in-range rang
 
 returns-4 : tie.Need-returns-4
 returns-4 c =
-    let far : tie.Then4 = search in
+    let near : tie.Then4 = search in
     let planned : tie.After-plan-of = search in
     let range : tie.Else1 = search in
-    length-16 _ _ _ (in-range range) (search) (search) (planned .plan-of .ensures) (not-true _ (far .if4 .taken))
+    length-given _ _ _ (in-range range) (search) (search) (planned .plan-of .ensures) (near .if4 .taken)
 
 returns-5 : tie.Need-returns-5
 returns-5 c =
-    let near : tie.Else4 = search in
+    let far : tie.Else4 = search in
     let planned : tie.After-plan-of = search in
     let range : tie.Else1 = search in
-    length-given _ _ _ (in-range range) (search) (search) (planned .plan-of .ensures) (not-false _ (near .if4 .left))
+    length-16 _ _ _ (in-range range) (search) (search) (planned .plan-of .ensures) (far .if4 .left)
 
 pub build-length-spec : {M : Type 1} → statement M
 build-length-spec = tie.close (tie.spec (search needs) returns returns-2 returns-3 plan-of-requires returns-4 returns-5)

@@ -25,6 +25,7 @@ build-next-spec =
     (search needs)
     (search needs)
     (search needs)
+    (search needs)
     (λ c. sym (length-take-le _ _ (omega arith)))
     (search needs)
     (λ c. sym (length-take-le _ _ (omega arith)))

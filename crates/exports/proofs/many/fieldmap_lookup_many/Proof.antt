@@ -5,7 +5,7 @@ use native.Mathlib.Omega.{arith}
 use lib.ListN.{length}
 use lib.Dec.{lit≤}
 use borrow.Author.Needs.{needs}
-use Rattle.format.specs.Layout.{layout32, standard}
+use Rattle.format.specs.Layout.{standard}
 use Rattle.codes.proofs.Coded.{answers-given, answers-refused, returned}
 use Rattle.lookups.proofs.ManyLookups.{many-most}
 use Rattle.readers.specs.Answers.{manyOf}
@@ -20,27 +20,32 @@ given-requires c κs =
     let told : tie.After-n = search in
     let start : tie.Start = search in
     let room : length (start .args .keys .now) * 8 < 2 ^ 63 = search in
-    omega (arith, room, many-most layout32 standard _ _ _ _ (sym (call .look-up-many .ensures .0) ∙ ap manyOf (told .n .given .1)))
+    omega (arith, room, many-most _ standard _ _ _ _ (sym (call .look-up-many .ensures .0) ∙ ap manyOf (told .n .given .1)))
 
 returns : tie.Need-returns
 returns c =
+    let w : tie.After-width = search in
     let call : tie.After-look-up-many = search in
     let told : tie.After-why = search in
     let (answer, lists) = call .look-up-many .ensures in
-    answers-refused (λ (n : ℕ). n) (lit≤ tt) (many-by layout32 standard _ _ _) (told .why .given .0 .0) (sym answer ∙ ap manyOf (told .why .given .1))
-    (c .refused .ok) (c .refused .ensures) lists
+    rw (sym (w .width .ensures))
+    (answers-refused (λ (n : ℕ). n) (lit≤ tt) (many-by _ standard _ _ _) (told .why .given .0 .0) (sym answer ∙ ap manyOf (told .why .given .1))
+    (c .refused .ok) (c .refused .ensures) lists)
 
 returns-2 : tie.Need-returns-2
 returns-2 c =
+    let w : tie.After-width = search in
     let call : tie.After-look-up-many = search in
     let told : tie.After-n = search in
     let (answer, lists) = call .look-up-many .ensures in
-    answers-given (λ (n : ℕ). n) (sym answer ∙ ap manyOf (told .n .given .1)) (returned (c .given .ok) (c .given .ensures)) lists
+    rw (sym (w .width .ensures))
+    (answers-given (λ (n : ℕ). n) (sym answer ∙ ap manyOf (told .n .given .1)) (returned (c .given .ok) (c .given .ensures)) lists)
 
 pub fieldmap-lookup-many-spec : {M : Type 1} → statement M
 fieldmap-lookup-many-spec =
     tie.close
     (tie.spec
+    (search needs)
     (λ c κs. search needs)
     (search needs)
     (λ c κs. search needs)

@@ -4,8 +4,8 @@ use mathlib.Core.Path.{_∙_, sym, ap}
 use native.Mathlib.Omega.{arith}
 use lib.Dec.{lit≤}
 use borrow.Author.Needs.{needs}
-use Rattle.format.specs.Layout.{layout32, standard}
-use Rattle.exports.proofs.Numbers.{column-fits}
+use Rattle.format.specs.Layout.{standard}
+use Rattle.exports.proofs.Numbers.{column-most}
 use Rattle.readers.specs.Answers.{rangeOf}
 use Rattle.codes.specs.Answers.{rangeWritten, rangeMatching}
 use Rattle.codes.proofs.Coded.{answers-given, answers-refused, returned, store-given, store-refused}
@@ -14,33 +14,35 @@ use Rattle.exports.proofs.range.fieldmap_column.Statement.{statement}
 use Rattle.exports.proofs.range.fieldmap_column.Tie as tie
 
 given-requires : tie.Need-given-requires
+unfolding standard
 given-requires c κs =
     let call : tie.After-column = search in
     let told : tie.After-written = search in
-    let known : tie.After-shared-slice-known = search in
     let e = sym (call .column .ensures .0) ∙ ap rangeOf (told .written .given .1) in
-    omega (arith, column-fits layout32 standard _ (λ i. known .shared-slice-known .given i .fits) _ _ _ _ _ _ _ _ e)
+    omega (arith, column-most _ standard _ _ _ _ _ _ _ _ _ e)
 
 returns : tie.Need-returns
 returns c =
+    let w : tie.After-width = search in
     let start : tie.Start = search in
     let by : tie.After-packing = search in
     let call : tie.After-column = search in
     let (answer, lists) = call .column .ensures in
     let e = sym answer ∙ ap rangeOf (c .before .before .why .given .1) in
-    rw (sym (by .packing .ensures), sym (toZ-ofZ (start .fits .a)), sym (toZ-ofZ (start .fits .b)))
-    (answers-refused rangeWritten (lit≤ tt) (column-by layout32 standard _ _ _ _ _ _ _ _) (c .before .before .why .given .0 .0) e
+    rw (sym (w .width .ensures), sym (by .packing .ensures), sym (toZ-ofZ (start .fits .a)), sym (toZ-ofZ (start .fits .b)))
+    (answers-refused rangeWritten (lit≤ tt) (column-by _ standard _ _ _ _ _ _ _ _) (c .before .before .why .given .0 .0) e
     (c .refused .ok) (c .refused .ensures) (lists .0, (lists .1, store-refused rangeMatching _ e)))
 
 returns-2 : tie.Need-returns-2
 returns-2 c =
+    let w : tie.After-width = search in
     let told : tie.After-written = search in
     let start : tie.Start = search in
     let by : tie.After-packing = search in
     let call : tie.After-column = search in
     let (answer, lists) = call .column .ensures in
     let e = sym answer ∙ ap rangeOf (told .written .given .1) in
-    rw (sym (by .packing .ensures), sym (toZ-ofZ (start .fits .a)), sym (toZ-ofZ (start .fits .b)))
+    rw (sym (w .width .ensures), sym (by .packing .ensures), sym (toZ-ofZ (start .fits .a)), sym (toZ-ofZ (start .fits .b)))
     (answers-given rangeWritten e (returned (c .given .ok) (c .given .ensures)) (lists .0, (lists .1, store-given rangeMatching _ e)))
 
 pub fieldmap-column-spec : {M : Type 1} → statement M
@@ -48,6 +50,7 @@ fieldmap-column-spec =
     tie.close
     (tie.spec
     (λ c κs. search needs)
+    (search needs)
     (λ c κs. search needs)
     (search needs)
     (λ c κs. search needs)

@@ -3,8 +3,8 @@ use mathlib.Core.Path.{_∙_, sym, ap}
 use native.Mathlib.Omega.{arith}
 use lib.Dec.{lit≤}
 use borrow.Author.Needs.{needs}
-use Rattle.format.specs.Layout.{layout32, standard}
-use Rattle.exports.proofs.Numbers.{range-fits}
+use Rattle.format.specs.Layout.{standard}
+use Rattle.exports.proofs.Numbers.{range-most}
 use Rattle.readers.specs.Answers.{rangeOf}
 use Rattle.codes.specs.Answers.{rangeWritten, rangeMatching}
 use Rattle.codes.proofs.Coded.{answers-given, answers-refused, returned, store-given, store-refused}
@@ -13,31 +13,33 @@ use Rattle.exports.proofs.range.fieldmap_range.Statement.{statement}
 use Rattle.exports.proofs.range.fieldmap_range.Tie as tie
 
 given-requires : tie.Need-given-requires
+unfolding standard
 given-requires c κs =
     let call : tie.After-range = search in
     let told : tie.After-written = search in
-    let known : tie.After-shared-slice-known = search in
     let e = sym (call .range .ensures .0) ∙ ap rangeOf (told .written .given .1) in
-    omega (arith, range-fits layout32 standard _ (λ i. known .shared-slice-known .given i .fits) _ _ _ _ _ e)
+    omega (arith, range-most _ standard _ _ _ _ _ _ e)
 
 returns : tie.Need-returns
 returns c =
+    let w : tie.After-width = search in
     let call : tie.After-range = search in
     let b : tie.After-bound2 = search in
     let (answer, lists) = call .range .ensures in
     let e = sym answer ∙ ap rangeOf (c .before .before .why .given .1) in
-    rw (sym (b .before .bound .ensures), sym (b .bound2 .ensures))
-    (answers-refused rangeWritten (lit≤ tt) (range-by layout32 standard _ _ _ _ _) (c .before .before .why .given .0 .0) e
+    rw (sym (w .width .ensures), sym (b .before .bound .ensures), sym (b .bound2 .ensures))
+    (answers-refused rangeWritten (lit≤ tt) (range-by _ standard _ _ _ _ _) (c .before .before .why .given .0 .0) e
     (c .refused .ok) (c .refused .ensures) (lists .0, (lists .1, store-refused rangeMatching _ e)))
 
 returns-2 : tie.Need-returns-2
 returns-2 c =
+    let w : tie.After-width = search in
     let told : tie.After-written = search in
     let call : tie.After-range = search in
     let b : tie.After-bound2 = search in
     let (answer, lists) = call .range .ensures in
     let e = sym answer ∙ ap rangeOf (told .written .given .1) in
-    rw (sym (b .before .bound .ensures), sym (b .bound2 .ensures))
+    rw (sym (w .width .ensures), sym (b .before .bound .ensures), sym (b .bound2 .ensures))
     (answers-given rangeWritten e (returned (c .given .ok) (c .given .ensures)) (lists .0, (lists .1, store-given rangeMatching _ e)))
 
 pub fieldmap-range-spec : {M : Type 1} → statement M
@@ -46,6 +48,7 @@ fieldmap-range-spec =
     (tie.spec
     (λ c κs. search needs)
     (λ c κs. search needs)
+    (search needs)
     (λ c κs. search needs)
     (search needs)
     (λ c κs. search needs)

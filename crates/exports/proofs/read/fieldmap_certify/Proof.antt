@@ -4,8 +4,8 @@ use mathlib.Core.Path.{_∙_, sym, ap}
 use native.Mathlib.Omega.{arith}
 use lib.Dec.{lit≤}
 use borrow.Author.Needs.{needs}
-use Rattle.format.specs.Layout.{layout32, standard}
-use Rattle.exports.proofs.Numbers.{count-fits}
+use Rattle.format.specs.Layout.{standard}
+use Rattle.exports.proofs.Numbers.{count-most}
 use Rattle.format.specs.Laws.Calls.Certified.{certified-accepts}
 use Rattle.codes.specs.Answers.{coded}
 use Rattle.codes.proofs.Coded.{told-counted, returned}
@@ -14,16 +14,17 @@ use Rattle.exports.proofs.read.fieldmap_certify.Statement.{statement}
 use Rattle.exports.proofs.read.fieldmap_certify.Tie as tie
 
 counted-requires : tie.Need-counted-requires
+unfolding standard
 counted-requires c κs = λ n e.
-    let known : tie.After-shared-slice-known = search in
-    let accepted = certified-accepts layout32 standard _ n (sym (c .certify .ensures) ∙ e) in
-    omega (arith, count-fits layout32 standard _ (λ i. known .shared-slice-known .given i .fits) n accepted)
+    let accepted = certified-accepts _ standard _ n (sym (c .certify .ensures) ∙ e) in
+    omega (arith, count-most _ standard _ n accepted)
 
 returns : tie.Need-returns
 returns c =
+    let w : tie.After-width = search in
     let e = c .before .certify .ensures in
     let a = returned (c .counted .ok) (c .counted .ensures) ∙ ap (coded (λ (n : ℕ). n)) e in
-    (a, told-counted (lit≤ tt) (certify-by layout32 standard _) (c .before .certify .result) e a)
+    rw (sym (w .width .ensures)) (a, told-counted (lit≤ tt) (certify-by _ standard _) (c .before .certify .result) e a)
 
 pub fieldmap-certify-spec : {M : Type 1} → statement M
-fieldmap-certify-spec = tie.close (tie.spec (search needs) counted-requires returns)
+fieldmap-certify-spec = tie.close (tie.spec (search needs) (search needs) counted-requires returns)

@@ -3,8 +3,8 @@ use mathlib.Core.Path.{_∙_, sym, ap}
 use native.Mathlib.Omega.{arith}
 use lib.Dec.{lit≤}
 use borrow.Author.Needs.{needs}
-use Rattle.format.specs.Layout.{layout32, standard}
-use Rattle.exports.proofs.Numbers.{walk-fits}
+use Rattle.format.specs.Layout.{standard}
+use Rattle.exports.proofs.Numbers.{walk-most}
 use Rattle.readers.specs.Answers.{walkOf}
 use Rattle.codes.specs.Answers.{walkWritten, walkCount}
 use Rattle.codes.proofs.Coded.{answers-given, answers-refused, returned, store-given, store-refused}
@@ -13,33 +13,38 @@ use Rattle.exports.proofs.read.fieldmap_walk.Statement.{statement}
 use Rattle.exports.proofs.read.fieldmap_walk.Tie as tie
 
 given-requires : tie.Need-given-requires
+unfolding standard
 given-requires c κs =
     let call : tie.After-walk = search in
     let told : tie.After-written = search in
-    let known : tie.After-shared-slice-known = search in
     let e = sym (call .walk .ensures .0) ∙ ap walkOf (told .written .given .1) in
-    omega (arith, walk-fits layout32 standard _ (λ i. known .shared-slice-known .given i .fits) _ _ _ e)
+    omega (arith, walk-most _ standard _ _ _ _ e)
 
 returns : tie.Need-returns
 returns c =
+    let w : tie.After-width = search in
     let call : tie.After-walk = search in
     let (answer, lists) = call .walk .ensures in
     let e = sym answer ∙ ap walkOf (c .before .before .why .given .1) in
-    answers-refused walkWritten (lit≤ tt) (walk-by layout32 standard _ _ _) (c .before .before .why .given .0 .0) e (c .refused .ok) (c .refused .ensures)
-    (lists .0, (lists .1, store-refused walkCount _ e))
+    rw (sym (w .width .ensures))
+    (answers-refused walkWritten (lit≤ tt) (walk-by _ standard _ _ _) (c .before .before .why .given .0 .0) e (c .refused .ok) (c .refused .ensures)
+    (lists .0, (lists .1, store-refused walkCount _ e)))
 
 returns-2 : tie.Need-returns-2
 returns-2 c =
+    let w : tie.After-width = search in
     let told : tie.After-written = search in
     let call : tie.After-walk = search in
     let (answer, lists) = call .walk .ensures in
     let e = sym answer ∙ ap walkOf (told .written .given .1) in
-    answers-given walkWritten e (returned (c .given .ok) (c .given .ensures)) (lists .0, (lists .1, store-given walkCount _ e))
+    rw (sym (w .width .ensures))
+    (answers-given walkWritten e (returned (c .given .ok) (c .given .ensures)) (lists .0, (lists .1, store-given walkCount _ e)))
 
 pub fieldmap-walk-spec : {M : Type 1} → statement M
 fieldmap-walk-spec =
     tie.close
     (tie.spec
+    (search needs)
     (λ c κs. search needs)
     (search needs)
     (λ c κs. search needs)

@@ -4,11 +4,11 @@ use mathlib.Core.Path.{_∙_, sym, ap}
 use native.Mathlib.Omega.{arith}
 use lib.Dec.{lit≤}
 use borrow.Author.Needs.{needs}
-use Rattle.format.specs.Layout.{layout32, standard}
+use Rattle.format.specs.Layout.{standard}
 use Rattle.format.specs.Laws.Build.Lengths.{build-most}
 use Rattle.builder.specs.Answers.{builtOf}
 use Rattle.codes.proofs.Coded.{answers-given, answers-refused, returned}
-use Rattle.fieldmap.specs.Refusals.{build-by}
+use Rattle.fieldmap.specs.Refusals.{build-up-to}
 use Rattle.exports.proofs.write.fieldmap_build.Statement.{statement}
 use Rattle.exports.proofs.write.fieldmap_build.Tie as tie
 
@@ -18,28 +18,33 @@ given-requires c κs =
     let call : tie.After-build = search in
     let told : tie.After-end = search in
     let e = sym (call .build .ensures .0) ∙ ap builtOf (told .end .given .1) in
-    omega (arith, build-most layout32 _ _ _ _ _ e)
+    omega (arith, build-most _ _ _ _ _ _ e)
 
 returns : tie.Need-returns
 returns c =
+    let w : tie.After-width = search in
     let call : tie.After-build = search in
     let told : tie.After-end = search in
     let (answer, output) = call .build .ensures in
     let e = sym answer ∙ ap builtOf (told .end .given .1) in
-    answers-given (λ (n : ℕ). n) e (returned (c .given .ok) (c .given .ensures)) output
+    rw (sym (w .width .ensures))
+    (answers-given (λ (n : ℕ). n) e (returned (c .given .ok) (c .given .ensures)) output)
 
 returns-2 : tie.Need-returns-2
 returns-2 c =
+    let w : tie.After-width = search in
     let call : tie.After-build = search in
     let (answer, output) = call .build .ensures in
     let e = sym answer ∙ ap builtOf (c .before .before .why .given .1) in
-    answers-refused (λ (n : ℕ). n) (lit≤ tt) (build-by layout32 (lit≤ tt) (lit≤ tt) (lit≤ tt) _ _ _ _)
-    (c .before .before .why .given .0 .0) e (c .refused .ok) (c .refused .ensures) output
+    rw (sym (w .width .ensures))
+    (answers-refused (λ (n : ℕ). n) (lit≤ tt) (build-up-to _ (lit≤ tt) (lit≤ tt) _ _ _ _)
+    (c .before .before .why .given .0 .0) e (c .refused .ok) (c .refused .ensures) output)
 
 pub fieldmap-build-spec : {M : Type 1} → statement M
 fieldmap-build-spec =
     tie.close
     (tie.spec
+    (search needs)
     (λ c κs. search needs)
     (search needs)
     given-requires

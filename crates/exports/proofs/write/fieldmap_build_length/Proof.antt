@@ -4,7 +4,7 @@ use mathlib.Core.Path.{_∙_, sym, ap}
 use native.Mathlib.Omega.{arith}
 use lib.Dec.{lit≤}
 use borrow.Author.Needs.{needs}
-use Rattle.format.specs.Layout.{layout32, standard}
+use Rattle.format.specs.Layout.{standard}
 use Rattle.format.specs.Laws.Build.Lengths.{length-most}
 use Rattle.builder.specs.Answers.{builtOf}
 use Rattle.codes.proofs.Coded.{code-given, code-refused, told-given, told-refused, returned}
@@ -17,24 +17,28 @@ unfolding standard
 given-requires c κs =
     let call : tie.After-build-length = search in
     let told : tie.After-end = search in
-    omega (arith, length-most layout32 _ _ _ (sym (call .build-length .ensures) ∙ ap builtOf (told .end .given .1)))
+    omega (arith, length-most _ _ _ _ (sym (call .build-length .ensures) ∙ ap builtOf (told .end .given .1)))
 
 returns : tie.Need-returns
 returns c =
+    let w : tie.After-width = search in
     let call : tie.After-build-length = search in
     let told : tie.After-end = search in
     let e = sym (call .build-length .ensures) ∙ ap builtOf (told .end .given .1) in
     let r = returned (c .given .ok) (c .given .ensures) in
-    (code-given (λ (n : ℕ). n) e r, told-given e r)
+    rw (sym (w .width .ensures))
+    ((code-given (λ (n : ℕ). n) e r, told-given e r))
 
 returns-2 : tie.Need-returns-2
 returns-2 c =
+    let w : tie.After-width = search in
     let call : tie.After-build-length = search in
     let e = sym (call .build-length .ensures) ∙ ap builtOf (c .before .before .why .given .1) in
     let r = returned (c .refused .ok) (c .refused .ensures) in
-    let up = length-up-to layout32 (lit≤ tt) (lit≤ tt) (lit≤ tt) _ _ in
-    (code-refused (λ (n : ℕ). n) e r, told-refused (lit≤ tt) up (c .before .before .why .given .0 .0) e r)
+    let up = length-up-to _ (lit≤ tt) (lit≤ tt) _ _ in
+    rw (sym (w .width .ensures))
+    ((code-refused (λ (n : ℕ). n) e r, told-refused (lit≤ tt) up (c .before .before .why .given .0 .0) e r))
 
 pub fieldmap-build-length-spec : {M : Type 1} → statement M
 fieldmap-build-length-spec =
-    tie.close (tie.spec (search needs) (search needs) given-requires (search needs) (search needs) returns returns-2)
+    tie.close (tie.spec (search needs) (search needs) (search needs) given-requires (search needs) (search needs) returns returns-2)
