@@ -14,11 +14,16 @@ const fn layout(width: usize, entries: usize) -> Layout {
     Layout { width, entries }
 }
 
-/// One of the names of a width, as a rule its own bytes.
+/// The name of a width: its bits.
+pub fn bits(width: usize) -> u8 {
+    8 * width as u8
+}
+
+/// One of the names of a width, as a rule its own.
 fn name(width: usize, random: &mut Random) -> u8 {
-    let own = width as u8;
+    let own = bits(width);
     match own {
-        4 => random.pick(&[own, own, own, own, 0, 3, 16, 255]),
+        32 => random.pick(&[own, own, own, own, 0, 2, 8, 255]),
         _ => own,
     }
 }

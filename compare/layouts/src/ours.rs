@@ -1,7 +1,7 @@
 //! The proved readers and the proved builder: the calls of the static library `liblayouts.a`. A refusal is its number.
 
-/// A layout as it is named to a call: a width other than 2 and 8 counts as 4, a number of entries above 15 as 15, but
-/// `build` refuses one outside 3 to 15.
+/// A layout as it is named to a call: its width in bits, of which another number than 16 and 64 counts as 32, and the
+/// entries a node, of which a number above 15 counts as 15, but `build` refuses one outside 3 to 15.
 #[derive(Clone, Copy, Debug)]
 pub struct Named {
     pub width: u8,

@@ -22,6 +22,7 @@ use compare::measure::theirs::{accepted, certified, look_up, range, visit};
 use compare::measure::{best, heading, row, Lent};
 use compare::rkyv_map::{self, Archive, WIDTH};
 use compare::trees::Random;
+use layouts::bits;
 use layouts::ours::Named;
 use rkyv::ser::allocator::Arena;
 use rkyv::util::AlignedVec;
@@ -58,7 +59,7 @@ fn measure<const N: usize>() {
 /// The layout as it is named to the proved calls.
 fn named<const N: usize>() -> Named {
     Named {
-        width: WIDTH as u8,
+        width: bits(WIDTH),
         entries: N,
     }
 }
