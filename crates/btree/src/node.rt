@@ -2,11 +2,11 @@
 // slot.
 use fields::primitive::u64_at;
 use fields::primitive::uint_at;
-use fields::rel_ptr::ones;
 use format::Child;
 use format::Entry;
 use format::Layout;
 use format::Position;
+use offsets::rel_ptr::ones;
 ghost use mathlib.Core.Path.{_≡_};
 ghost use Prim.Native.Nat.{_+_, _<_, _≤_};
 ghost use lib.ListN.{length};

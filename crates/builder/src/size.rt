@@ -1,9 +1,9 @@
 // What is known of an archive by the number of entries, with no walk over them: its levels, its end, and whether its offsets fit.
 use fields::least::least;
-use fields::rel_ptr::ones;
-use fields::ser::writer::Aligned;
-use fields::ser::writer::align;
 use format::Layout;
+use offsets::rel_ptr::ones;
+use offsets::ser::writer::Aligned;
+use offsets::ser::writer::align;
 ghost use mathlib.Core.Path.{_≡_};
 ghost use mathlib.Core.Bool.{true};
 ghost use Prim.Native.Nat.{suc, _+_, _-_, _*_, _^_, _<_, _≤_, min};

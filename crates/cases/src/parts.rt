@@ -9,9 +9,9 @@ use crate::output::print_line;
 use crate::output::print_pair;
 use crate::output::print_refused;
 use crate::output::print_signed;
-use fields::rel_ptr::Distance;
-use fields::rel_ptr::Stored;
-use fields::ser::writer::Aligned;
+use offsets::rel_ptr::Distance;
+use offsets::rel_ptr::Stored;
+use offsets::ser::writer::Aligned;
 use perimetry::key::Packed;
 ghost use mathlib.Core.Path.{_≡_};
 

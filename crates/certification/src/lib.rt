@@ -2,10 +2,10 @@
 use btree::node::child_at;
 use btree::node::leaf_len;
 use fields::primitive::u64_at;
-use fields::rel_ptr::is_invalid_at;
 use format::Child;
 use format::Layout;
 use format::Position;
+use offsets::rel_ptr::is_invalid_at;
 ghost use mathlib.Core.Path.{_≡_};
 ghost use Prim.Native.Nat.{_+_, _<_, _≤_};
 ghost use lib.ListN.{length, getD};

@@ -1,5 +1,5 @@
 -- How large the numbers are that the calls give: an archive has no more entries than bytes, and no more bytes than the limit. Assumes nothing.
-use Prim.Native.Nat.{ℕ, _+_, _≤_, _<_}
+use Prim.Native.Nat.{ℕ, _≤_, _<_}
 use mathlib.Core.Path.{_≡_, refl, sym, _∙_, ap}
 use mathlib.Core.List.{List}
 use native.Mathlib.Decide.{decLt}

@@ -1,8 +1,8 @@
 // The parts: differences and offsets of positions, and the alignment step. Each stores what it gives and answers 0.
 use codes::refused;
-use fields::rel_ptr::Distance;
-use fields::rel_ptr::Stored;
-use fields::ser::writer::Aligned;
+use offsets::rel_ptr::Distance;
+use offsets::rel_ptr::Stored;
+use offsets::ser::writer::Aligned;
 ghost use mathlib.Core.Path.{_≡_};
 ghost use Rattle.format.specs.RelPtr.{signedOffset, storedOffset, absentOffset};
 ghost use Rattle.format.specs.Align.{alignStep};

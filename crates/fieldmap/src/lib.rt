@@ -1,9 +1,6 @@
 // The calls of the archived field map. Any bytes, lists, positions and lengths may be passed: each call answers, or gives a listed refusal and
 // leaves what was lent as it was. An archive is built, checked and read at the width of its offsets and counts, with five entries a node.
 use builder::build::BuildAnswer;
-use fields::rel_ptr::Distance;
-use fields::rel_ptr::Stored;
-use fields::ser::writer::Aligned;
 use format::Bound;
 use format::CheckAnswer;
 use format::Common;
@@ -11,6 +8,9 @@ use format::Layout;
 use format::Packing;
 use format::Refusal;
 use format::Width;
+use offsets::rel_ptr::Distance;
+use offsets::rel_ptr::Stored;
+use offsets::ser::writer::Aligned;
 use perimetry::column::Columns;
 use perimetry::column::column_bounds;
 use perimetry::key::KeyFields;
@@ -31,7 +31,7 @@ ghost use Rattle.format.specs.Certify.{certify};
 ghost use Rattle.format.specs.Build.{build, buildLength, outAfter};
 ghost use Rattle.format.specs.Calls.{lookupCall, bytesCall, placeCall, walkCall, walkKeys, walkValues, rangeCall, rangeKeys, rangeValues, columnCall};
 ghost use Rattle.format.specs.Calls.{columnKeys, columnValues};
-ghost use Rattle.fields.specs.Answers.{distanceOf, storedOf, alignedOf};
+ghost use Rattle.offsets.specs.Answers.{distanceOf, storedOf, alignedOf};
 ghost use Rattle.builder.specs.Answers.{builtOf};
 ghost use Rattle.perimetry.specs.Answers.{packedOf, unpackedOf};
 ghost use Rattle.readers.specs.Answers.{lookupOf, walkOf, rangeOf};
@@ -174,28 +174,28 @@ pub fn build_length(width: Width, entries: usize, header: usize) -> BuildAnswer
 pub fn signed_offset(from: u64, to: u64) -> Distance
     ensures { λ r. ⌜ distanceOf r ≡ signedOffset from to ⌝ }
 {
-    fields::rel_ptr::signed_offset(from, to)
+    offsets::rel_ptr::signed_offset(from, to)
 }
 
 // The 32-bit offset from a field to a position.
 pub fn offset32(from: u64, to: u64) -> Stored
     ensures { λ r. ⌜ storedOf r ≡ storedOffset 31 from to ⌝ }
 {
-    fields::rel_ptr::offset32(from, to)
+    offsets::rel_ptr::offset32(from, to)
 }
 
 // The offset that marks an absent pointer at a position.
 pub fn absent_offset(at: u64) -> Stored
     ensures { λ r. ⌜ storedOf r ≡ absentOffset 31 at ⌝ }
 {
-    fields::rel_ptr::absent_offset(at)
+    offsets::rel_ptr::absent_offset(at)
 }
 
 // The next position on an alignment, and the zeros before it.
 pub fn align(pos: u64, alignment: u64) -> Aligned
     ensures { λ r. ⌜ alignedOf r ≡ alignStep pos alignment ⌝ }
 {
-    fields::ser::writer::align(pos, alignment)
+    offsets::ser::writer::align(pos, alignment)
 }
 
 // The key of an examination's fields.

@@ -11,7 +11,7 @@ use Rattle.format.specs.RelPtr.{target, absent}
 use Rattle.format.specs.Node.{child}
 use Rattle.format.specs.Readable.{LeadsTo}
 use Rattle.format.specs.Laws.Numbers.Widths.{bytes-some, bytes-few, area, reach, field-is}
-use Rattle.fields.proofs.Offsets.{leads-behind}
+use Rattle.offsets.proofs.Offsets.{leads-behind}
 use Rattle.numbers.specs.Numbers.{widthFor, numbered, Numbers}
 
 module _ (w : ℕ) where

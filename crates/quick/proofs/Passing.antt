@@ -15,7 +15,7 @@ use Rattle.format.specs.Readable.{LeadsTo}
 use Rattle.format.specs.NodeRelation.{ChildOk, gone, there, ChildrenOk, last, more, leafOk, innerOk, Holds}
 use Rattle.format.specs.Laws.Check.Complete.{complete}
 use Rattle.format.specs.Laws.Read.Node.{kind-leaf}
-use Rattle.fields.proofs.Offsets.{leads-behind}
+use Rattle.offsets.proofs.Offsets.{leads-behind}
 use Rattle.quick.specs.Quick.{Below, Root}
 use Rattle.format.specs.Laws.Check.Bounds.{child-bytes, holds-bytes}
 

@@ -1,6 +1,5 @@
 // The readers of a whole archive, at a layout: each checks or certifies it first.
 use fields::primitive::uint_at;
-use fields::rel_ptr::ones;
 use format::Bound;
 use format::CheckAnswer;
 use format::Entry;
@@ -8,6 +7,7 @@ use format::Found;
 use format::Layout;
 use format::Position;
 use format::Refusal;
+use offsets::rel_ptr::ones;
 use ordered::quick_certify;
 ghost use mathlib.Core.Path.{_≡_};
 ghost use Prim.Native.Nat.{_-_, _≤_};

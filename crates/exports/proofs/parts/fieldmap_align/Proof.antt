@@ -4,7 +4,7 @@ use lib.Dec.{lit≤}
 use borrow.Author.Needs.{needs}
 use Rattle.format.specs.Align.{Step}
 use Rattle.codes.specs.Answers.{stepNext, stepZeros}
-use Rattle.fields.specs.Answers.{alignedOf}
+use Rattle.offsets.specs.Answers.{alignedOf}
 use Rattle.codes.proofs.Coded.{answers-given, answers-refused, store-given, store-refused}
 use Rattle.fieldmap.specs.Refusals.{align-by}
 use Rattle.exports.proofs.parts.fieldmap_align.Statement.{statement}

@@ -4,7 +4,7 @@ use mir.Facts.{toZ-ofZ}
 use mathlib.Core.Path.{_∙_, sym, ap}
 use lib.Dec.{lit≤}
 use borrow.Author.Needs.{needs, sfits-of}
-use Rattle.fields.specs.Answers.{distanceOf}
+use Rattle.offsets.specs.Answers.{distanceOf}
 use Rattle.codes.proofs.Coded.{part-given, part-refused}
 use Rattle.fieldmap.specs.Refusals.{signed-by}
 use Rattle.exports.proofs.parts.fieldmap_signed_offset.Statement.{statement}

@@ -20,7 +20,7 @@ use Rattle.subtrees.proofs.node.+check_inner_node+check_node_rel_ptr.Lt
 use Rattle.subtrees.proofs.node.check_node_rel_ptr.Reads as node-rel-ptr
 use Rattle.subtrees.proofs.node.check_node_rel_ptr.Kinds as node-kinds
 use Rattle.subtrees.proofs.node.+check_inner_node+check_node_rel_ptr.Lts-check_node_rel_ptr as node-lts
-use Rattle.fields.proofs.rel_ptr.is_invalid_at.Reads as is-invalid-at
+use Rattle.offsets.proofs.rel_ptr.is_invalid_at.Reads as is-invalid-at
 use Rattle.format.proofs.Layout.inner.Reads as inner
 use Rattle.subtrees.proofs.archive.in_subtree.Reads as in-subtree
 use Rattle.subtrees.proofs.archive.pop_subtree_range.Reads as pop-subtree-range

@@ -8,7 +8,7 @@ use Rattle.format.specs.Layout.{Layout, layoutOf, headSize, nodeAlign}
 use Rattle.format.specs.RelPtr as RelPtr
 use Rattle.format.specs.RelPtr.{target}
 use Rattle.format.specs.Check.{checkNode}
-use Rattle.fields.specs.Answers.{targetOf}
+use Rattle.offsets.specs.Answers.{targetOf}
 use Rattle.subtrees.specs.Subtree.{placed}
 use Rattle.subtrees.specs.Answers.{nodeOf, enteredLeaf, Enters}
 use Rattle.subtrees.specs.declared.archive.SubtreeRange.{SubtreeRange}

@@ -1,0 +1,2 @@
+mod Alignments
+pub mod Offsets
