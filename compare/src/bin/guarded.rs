@@ -216,7 +216,7 @@ fn build(
     let Right { archive, end } = Right::of(OWN, build_if_it_fits::<5>, &front, keys, values);
     let (short, long) = (random.below(end), end + random.below(30));
     let length = random.pick(&[end, end, long, short]);
-    let right = (length >= end).then_some(archive).unwrap_or(Err(14));
+    let right = if length < end { Err(14) } else { archive };
     let output = lenders.output.lend(place, &vec![BYTE_BEFORE; length]);
     let answer = ours::build(output, header, keys, values);
     let number = right.as_ref().map(|archive| archive.len() as u32);
