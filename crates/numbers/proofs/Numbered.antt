@@ -15,25 +15,25 @@ use Rattle.offsets.proofs.Offsets.{leads-behind}
 use Rattle.numbers.specs.Numbers.{widthFor, numbered, Numbers}
 
 module _ (w : ℕ) where
-  pub for-four : w ≡ 4 → widthFor w ≡ four
-  unfolding widthFor
-  for-four e = ap widthFor e
-
   pub for-two : w ≡ 2 → widthFor w ≡ two
   unfolding widthFor
   for-two e = ap widthFor e
 
-  pub for-eight : (w ≡ 4 → ⊥) → (w ≡ 2 → ⊥) → widthFor w ≡ eight
+  pub for-eight : w ≡ 8 → widthFor w ≡ eight
   unfolding widthFor
-  for-eight e f = cc (ne-eqb w 4 e, ne-eqb w 2 f)
+  for-eight e = ap widthFor e
+
+  pub for-four : (w ≡ 2 → ⊥) → (w ≡ 8 → ⊥) → widthFor w ≡ four
+  unfolding widthFor
+  for-four e f = cc (ne-eqb w 2 e, ne-eqb w 8 f)
 
   pub fields-fit : (n : ℕ) → bytes (widthFor w) ≡ w → n ≤ 16 → w * n ≤ 128
   fields-fit n wide h = area w n (omega (arith, bytes-few (widthFor w), wide)) h
 
 width-for : (v : Width) → widthFor (bytes v) ≡ v
 width-for two = for-two 2 refl
-width-for four = for-four 4 refl
-width-for eight = for-eight 8 (omega arith) (omega arith)
+width-for four = for-four 4 (omega arith) (omega arith)
+width-for eight = for-eight 8 refl
 
 pub numbered-is : (l : NamedLayout) → numbered (pointer (layoutOf l)) (l .entries) ≡ layoutOf l
 numbered-is l = ap (λ (v : Width). record { width = v; entries = l .entries }) (width-for (widthOf (l .width)))

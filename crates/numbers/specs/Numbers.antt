@@ -7,7 +7,7 @@ use Rattle.format.specs.Layout.{Layout, Width, two, four, eight, bytes, signBit
 
 -- The layout of a width and of the entries a node as numbers.
 unfoldable pub widthFor : ℕ → Width
-widthFor w = elim (eqb w 4) [ true ↦ four | false ↦ elim (eqb w 2) [ true ↦ two | false ↦ eight ] ]
+widthFor w = elim (eqb w 2) [ true ↦ two | false ↦ elim (eqb w 8) [ true ↦ eight | false ↦ four ] ]
 
 abbrev pub numbered : ℕ → ℕ → Layout
 numbered w e = record { width = widthFor w; entries = e }

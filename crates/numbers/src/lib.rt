@@ -22,13 +22,13 @@ fn number_at(s: &[u8], p: usize, w: usize) -> usize
     requires { ⌜ (bytes (widthFor w) ≡ w) × (p + w ≤ length (now s)) ⌝ }
     ensures { λ r. ⌜ (r ≡ leAt (bytes (widthFor w)) (now (s .entry)) p) × (r < 2 ^ suc (signBits (widthFor w))) ⌝ }
 {
-    if w == 4 {
-        return u32_at(s, p) as usize;
-    }
     if w == 2 {
         return u16_at(s, p) as usize;
     }
-    u64_at(s, p) as usize
+    if w == 8 {
+        return u64_at(s, p) as usize;
+    }
+    u32_at(s, p) as usize
 }
 
 // The size of an inner node.
