@@ -182,14 +182,8 @@ module _ (w : Width) where
       → Answers s TwosComplement exam eye a b (select (eyeWith TwosComplement exam eye (λ (x : ℤ). leZ a x || leZ x b)) (list L standard s))
   n5-old-around s exam eye a b q p r = answers s TwosComplement exam eye a b q _ (old-around L standard s exam eye a b p r)
 
--- ---- N8, "Archives of 16 and 64-bit pointer width". Each call that builds, checks or reads is stated at `layoutAt` of the width that it is given, and
--- so "Walk, lookup and certification are proved over the width as a parameter": demand 3 of Demands.antt.
-
--- "Builder, check and every reader take one of these three widths from the caller, and no other can be named"
-pub n8-three : (w : NamedWidth) → (w ≡ Two) ⊎ ((w ≡ Four) ⊎ (w ≡ Eight))
-n8-three Two = inl refl
-n8-three Four = inr (inl refl)
-n8-three Eight = inr (inr refl)
+-- ---- N8, "Archives of 16 and 64-bit pointer width". "Walk, lookup and certification are proved over the width as a parameter": each call that builds,
+-- checks or reads is stated at `layoutAt` of the width that it is given, and Demands.antt has the demands over every width.
 
 -- "With 64 bits the leaf is 96 bytes, the inner node 136, the record 16 on 8."
 pub record Sizes (w : Width) (leaf inner size on : ℕ) : Type 0 where
@@ -206,7 +200,7 @@ pub n8-with-16-bits : Sizes two 96 104 4 2
 n8-with-16-bits = record { leaf-size = refl; inner-size = refl; record-size = refl; record-on = refl }
 
 module _ (w : Width) (s : List ℕ) where
-  -- "Offset and count take the chosen width": an offset is a signed number of so many bytes, and so is the count behind the record's offset, unsigned.
+  -- "Offset and count take the chosen width": an offset is a signed number of so many bytes, the record's count an unsigned one behind its offset.
   pub n8-offset : (f : ℕ) → target (atWidth w) s f ≡ position (pos f +ℤ ofTwos (signBits w) (leAt (bytes w) s f))
   unfolding target
   n8-offset f = refl
@@ -223,6 +217,12 @@ module _ (w : Width) (s : List ℕ) where
   pub n8-too-short : length s < 2 * bytes w → counted (checkArchive (atWidth w) standard s) ≡ refuses 2
   unfolding standard
   n8-too-short l = too-short (atWidth w) standard s (omega (arith, bytes-few w)) l
+
+-- "Builder, check and every reader take one of these three widths from the caller, and no other can be named"
+pub n8-three : (w : NamedWidth) → (w ≡ Two) ⊎ ((w ≡ Four) ⊎ (w ≡ Eight))
+n8-three Two = inl refl
+n8-three Four = inr (inl refl)
+n8-three Eight = inr (inr refl)
 
 -- "Refused: 16 also when a 16-bit distance doesn't fit, after 14."
 module _ (w : Width) (ks vs : List ℕ) (h room : ℕ) where
