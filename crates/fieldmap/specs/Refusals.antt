@@ -26,8 +26,8 @@ use Rattle.format.specs.Calls.{lookupCall, walkCall, rangeCall, columnCall, col
 use Rattle.format.specs.Laws.Numbers.RelPtr.{absent-last, stored-15, offset-behind, fits-refused}
 use Rattle.format.specs.Laws.Check.Refusals.{check-by, certify-by}
 use Rattle.format.specs.Laws.Build.BytesAt.{absent-fits}
-use Rattle.format.specs.Laws.Build.Taken.{passes, in-range}
-use Rattle.format.specs.Laws.Build.Certifies.{wide-build}
+use Rattle.format.specs.Laws.Build.Taken.{passes, in-range, by-16}
+use Rattle.format.specs.Laws.Build.Certifies.{wide-gives}
 use Rattle.format.specs.Laws.Build.Lengths.{wide-length}
 use Rattle.format.specs.Laws.Calls.Accepted.{lookup-refuses, lookup-accepted, walk-refuses, walk-accepted}
 use Rattle.format.specs.Laws.Calls.Certified.{range-refuses, range-keys-refuses, range-values-refuses, range-certified, column-ranges, column-values-refused}
@@ -157,20 +157,13 @@ module _ (L : Layout) (least : 3 ≤ L .entries) (most : L .entries ≤ 15) wher
   -- With 32 and 64 bits 16 does not arise.
   module _ (w : 4 ≤ pointer L) where
     pub wide-build-by : (ks vs : List ℕ) (h room : ℕ) → RefusesBy 10 14 (build L ks vs h room)
-    wide-build-by ks vs h room r e = tests r (sym (wide-build L ks vs h room least most w) ∙ e)
+    wide-build-by ks vs h room r e = go (build-by ks vs h room r e)
       where
-        n : ℕ
-        n = h + length (behind L h (treeOf L (pairs ks vs)) (length ks))
-
-        tests : RefusesBy 10 14
-            (provided (eqb (length ks) (length vs)) 10
-            (provided (leb (length ks) 40000) 11
-            (provided (rises ks) 12 (provided (leb h 4096) 13 (provided (leb n room) 14 (gives n))))))
-        tests =
-            by-provided (eqb (length ks) (length vs)) 10 _ (omega arith) (omega arith)
-            (by-provided (leb (length ks) 40000) 11 _ (omega arith) (omega arith)
-            (by-provided (rises ks) 12 _ (omega arith) (omega arith)
-            (by-provided (leb h 4096) 13 _ (omega arith) (omega arith) (by-provided (leb n room) 14 _ (omega arith) (omega arith) (by-gives n)))))
+        go : OfBuild r → (10 ≤ r) × (r ≤ 14)
+        go (inl b) = b
+        go (inr z) =
+            let (T, off) = by-16 L ks vs h room least most .0 (e ∙ ap refuses z) in
+            absurd (given (sym (wide-gives L ks vs h room least most w _ T) ∙ e))
 
     abbrev OfWideLength : ℕ → Type 0
     OfWideLength r = (r ≡ 11) ⊎ (r ≡ 13)

@@ -27,7 +27,7 @@ returns c =
     let e = sym (call .build-length .ensures) ∙ ap builtOf (told .end .given .1) in
     let r = returned (c .given .ok) (c .given .ensures) in
     rw (sym (w .width .ensures))
-    ((code-given (λ (n : ℕ). n) e r, told-given e r))
+    (code-given (λ (n : ℕ). n) e r, told-given e r)
 
 returns-2 : tie.Need-returns-2
 returns-2 c =
@@ -37,7 +37,7 @@ returns-2 c =
     let r = returned (c .refused .ok) (c .refused .ensures) in
     let up = length-up-to _ (lit≤ tt) (lit≤ tt) _ _ in
     rw (sym (w .width .ensures))
-    ((code-refused (λ (n : ℕ). n) e r, told-refused (lit≤ tt) up (c .before .before .why .given .0 .0) e r))
+    (code-refused (λ (n : ℕ). n) e r, told-refused (lit≤ tt) up (c .before .before .why .given .0 .0) e r)
 
 pub fieldmap-build-length-spec : {M : Type 1} → statement M
 fieldmap-build-length-spec =
