@@ -7,14 +7,15 @@ use native.Mathlib.Omega.{arith}
 use borrow.Author.Tests.{le-leb, lt-leb, eq-eqb, ne-eqb}
 use lib.ListN.{length, replicate, length-replicate}
 use lib.Dec.{leb}
-use Rattle.format.specs.Layout.{Layout}
+use Rattle.format.specs.Layout.{Layout, entriesInRange}
 use Rattle.format.specs.Bytes.{put}
 use Rattle.format.specs.Refusal.{Answer, gives, refuses, provided}
 use Rattle.format.specs.Offsets.{archiveEmplaces}
 use Rattle.format.specs.Tree.{KeyValue}
-use Rattle.format.specs.Build.{treeOf, start, behind, pairs, rises, entriesInRange, build, buildLength, outBy, outAfter}
+use Rattle.format.specs.Build.{treeOf, start, behind, pairs, rises, build, buildLength, outBy, outAfter}
 use Rattle.format.specs.Laws.Build.Given.{length-pairs}
-use Rattle.format.specs.Laws.Build.Taken.{passes, fails, range-in}
+use Rattle.format.specs.Laws.Numbers.Widths.{range-in}
+use Rattle.format.specs.Laws.Build.Taken.{passes, fails}
 use Rattle.format.specs.Laws.Build.Certifies.{emplaces-by}
 use Rattle.builder.specs.declared.size.Plan.{Plan}
 use Rattle.builder.specs.Size.{Named, fitsWidth, Planned}

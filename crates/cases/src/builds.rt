@@ -1,15 +1,15 @@
 // Questions to the builder.
 use crate::checksum::checksum;
+use crate::input::next_layout;
 use crate::input::next_list;
 use crate::input::next_u32;
 use crate::input::next_u64;
-use crate::input::next_width;
 use crate::output::print;
 use crate::output::print_checked;
 use crate::output::print_line;
 use crate::output::print_refused;
 use builder::build::BuildAnswer;
-use format::Width;
+use format::Layout;
 ghost use mathlib.Core.Path.{_≡_};
 ghost use lib.ListN.{length, replicate};
 
@@ -29,29 +29,29 @@ fn room() -> [u64; 40002]
     [0; 40002]
 }
 
-fn print_certified(width: Width, archive: &[u8]) {
+fn print_certified(layout: Layout, archive: &[u8]) {
     print(b"certify ");
-    print_checked(fieldmap::certify(width, archive));
+    print_checked(fieldmap::certify(layout, archive));
 }
 
-fn print_length(width: Width, entries: usize, header: usize) {
+fn print_length(layout: Layout, entries: usize, header: usize) {
     print(b"length ");
-    match fieldmap::build_length(width, entries, header) {
+    match fieldmap::build_length(layout, entries, header) {
         BuildAnswer::Refused(why) => print_refused(why),
         BuildAnswer::Built(end) => print_line(end as u64),
     }
 }
 
 // The length that as many entries as there are keys need, the answer, what certify says of the archive, and the checksum of the whole output.
-fn build(width: Width, out: &mut [u8], header: usize, keys: &[u64], values: &[u64]) {
-    print_length(width, keys.len(), header);
+fn build(layout: Layout, out: &mut [u8], header: usize, keys: &[u64], values: &[u64]) {
+    print_length(layout, keys.len(), header);
     print(b"build ");
-    match fieldmap::build(width, out, header, keys, values) {
+    match fieldmap::build(layout, out, header, keys, values) {
         BuildAnswer::Refused(why) => print_refused(why),
         BuildAnswer::Built(end) => {
             print_line(end as u64);
             if end <= out.len() {
-                print_certified(width, &out[..end]);
+                print_certified(layout, &out[..end]);
             }
         }
     }
@@ -61,7 +61,7 @@ fn build(width: Width, out: &mut [u8], header: usize, keys: &[u64], values: &[u6
 
 // Fills two lists with the next ones, and builds of their fronts in the front of the output.
 fn build_next(out: &mut [u8], keys: &mut [u64], values: &mut [u64]) {
-    let width = next_width();
+    let layout = next_layout();
     let header = next_u64() as usize;
     let length = next_u32() as usize;
     let n = next_list(keys);
@@ -75,7 +75,7 @@ fn build_next(out: &mut [u8], keys: &mut [u64], values: &mut [u64]) {
     if values.len() < m {
         return;
     }
-    build(width, &mut out[..length], header, &keys[..n], &values[..m]);
+    build(layout, &mut out[..length], header, &keys[..n], &values[..m]);
 }
 
 pub fn replay_build() {

@@ -3,8 +3,8 @@ use fields::primitive::u32_at;
 use fields::primitive::u64_at;
 use fields::twos::signed8;
 use format::Bound;
+use format::Layout;
 use format::Packing;
-use format::Width;
 use libc::STDIN_FILENO;
 
 pub fn next_u8() -> u8 {
@@ -38,8 +38,9 @@ pub fn next_packing() -> Packing {
     codes::packing(next_u8())
 }
 
-pub fn next_width() -> Width {
-    codes::width(next_u8())
+pub fn next_layout() -> Layout {
+    let bits = next_u8();
+    codes::layout(bits, next_u8() as usize)
 }
 
 // Fills the list with the next numbers.

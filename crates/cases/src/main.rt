@@ -4,18 +4,18 @@
 // The input is a sequence of questions, all numbers little-endian; the archive that is too long for it stands in archives.rt. A question
 // starts with its kind in one byte, and 0 or the end of the input ends the sequence:
 //
-// 1  an archive: its width in one byte, its length in four bytes and the archive, at most 65,536 bytes; the number of keys to look up in four
+// 1  an archive: its layout in two bytes, its length in four bytes and the archive, at most 65,536 bytes; the number of keys to look up in four
 //    bytes and the keys; the number of ranges in four bytes and of each the lower and the upper bound, a kind in one byte (0 included, 1
 //    excluded, 2 unbounded) and a key; the number of column queries in four bytes and of each packing, examination, eye, a and b in 1, 4, 1,
 //    1 and 1 bytes
-// 2  a build: the width in one byte, the header's length in eight bytes, the output's in four, and two lists, each its length in four bytes,
+// 2  a build: the layout in two bytes, the header's length in eight bytes, the output's in four, and two lists, each its length in four bytes,
 //    its form in one byte, and the numbers (form 0) or the first number and the step from one to the next (form 1)
 // 3  a signed difference: two positions     4  a 32-bit offset: two positions     5  an absent offset: a position
 // 6  an alignment step: a position and an alignment
 // 7  a key to pack: packing, examination, eye, x, y and presentation in 1, 4, 1, 1, 1 and 4 bytes
 // 8  a key to unpack: a packing in one byte and the key     9  a value to read
 //
-// A width is its bits, 16, 32 or 64; a packing is 0 for two's complement and 1 for plus 128.
+// A layout is the bits of its width, 16, 32 or 64, and the entries a node; a packing is 0 for two's complement and 1 for plus 128.
 mod archives;
 mod builds;
 mod checksum;

@@ -14,7 +14,7 @@ use lib.Signed.{mag, _≤ℤ_, _<ℤ_}
 use Rattle.format.specs.declared.CheckAnswer.{CheckAnswer}
 use Rattle.format.specs.declared.CheckAnswer.the-variants.{Accepted, Refused}
 use Rattle.format.specs.declared.Refusal.{Refusal}
-use Rattle.format.specs.Refusal.{Answer, gives, refuses, number, checkOf, RefusesBy}
+use Rattle.format.specs.Refusal.{Answer, gives, refuses, number, checkOf}
 use Rattle.format.specs.Layout.{Layout, Limits}
 use Rattle.format.specs.Check.{Checked, accepted, refused, checkArchive}
 use Rattle.format.specs.Lookup.{bytesOf, lookup}
@@ -23,7 +23,7 @@ use Rattle.format.specs.declared.Entry.{Entry}
 use Rattle.format.specs.declared.Found.{Found}
 use Rattle.format.specs.declared.Found.the-variants.{Entry as found, Nothing as nothing}
 use Rattle.codes.specs.Answers.{coded, Tells, stored, lengthTold, storedFound}
-use Rattle.codes.proofs.RefusalNumbers.{number-listed}
+use Rattle.codes.proofs.RefusalNumbers.{number-listed, listed-some}
 
 module _ {A : Type 0} (f : A → ℕ) {a : Answer A} {z : ℤ} where
   pub code-given : {x : A} → a ≡ gives x → z ≡ pos (f x) → z ≡ coded f a
@@ -43,12 +43,8 @@ module _ {A : Type 0} {z : ℤ} {a : Answer A} where
   pub told-given : {x : A} {n : ℕ} → a ≡ gives x → z ≡ pos n → Tells z a
   told-given {n = n} e h = rw (e, h) (not-below n)
 
-  -- Of a call that refuses by no number above 18.
-  pub told-refused : {m n : ℕ} → n ≤ 18 → RefusesBy m n a → (why : Refusal) → a ≡ refuses (number why) → z ≡ negℤ (pos (number why)) → Tells z a
-  told-refused few by why e h =
-      let some = number-listed why .0 in
-      let listed : number why ≤ 18 = omega (arith, few, by (number why) e .1) in
-      rw (e, h) (below (number why) some, some, listed)
+  pub told-refused : (why : Refusal) → a ≡ refuses (number why) → z ≡ negℤ (pos (number why)) → Tells z a
+  told-refused why e h = let listed = number-listed why in rw (e, h) (below (number why) (listed-some listed .0), listed)
 
 -- The machine's 64 bits hold the number that is returned.
 pub returned : {y z : ℤ} → mag z < 2 ^ 63 → z ≡ y → toZ w64 (ofZ w64 z) ≡ y
@@ -59,9 +55,9 @@ module _ {A Rest : Type 0} (f : A → ℕ) {a : Answer A} {z : ℤ} where
   pub answers-given : {x : A} → a ≡ gives x → z ≡ pos (f x) → Rest → (z ≡ coded f a) × (Tells z a × Rest)
   answers-given e h rest = (code-given f e h, (told-given e h, rest))
 
-  pub answers-refused : {m n : ℕ} → n ≤ 18 → RefusesBy m n a → (why : Refusal) → a ≡ refuses (number why) → mag z < 2 ^ 63 → z ≡ negℤ (pos (number why)) → Rest
+  pub answers-refused : (why : Refusal) → a ≡ refuses (number why) → mag z < 2 ^ 63 → z ≡ negℤ (pos (number why)) → Rest
       → (toZ w64 (ofZ w64 z) ≡ coded f a) × (Tells (toZ w64 (ofZ w64 z)) a × Rest)
-  answers-refused few by why e fits h rest = let r = returned fits h in (code-refused f e r, (told-refused few by why e r, rest))
+  answers-refused why e fits h rest = let r = returned fits h in (code-refused f e r, (told-refused why e r, rest))
 
 -- A refusal tells no length.
 pub no-bytes : {z : ℤ} (why : Refusal) (l : List ℕ) → z ≡ negℤ (pos (number why)) → take (lengthTold z) l ≡ []
@@ -72,9 +68,9 @@ no-bytes why l e = ap (λ (z : ℤ). take (lengthTold z) l) e ∙ by (number why
     by (suc r) = refl
 
 -- Of an answer of check or certify.
-pub told-counted : {m n : ℕ} {z : ℤ} {a : Answer ℕ} → n ≤ 18 → RefusesBy m n a → (c : CheckAnswer) → checkOf c ≡ a → z ≡ coded (λ n. n) a → Tells z a
-told-counted few by (Accepted n) e ez = told-given (sym e) (ez ∙ ap (coded (λ (n : ℕ). n)) (sym e))
-told-counted few by (Refused why) e ez = told-refused few by why (sym e) (ez ∙ ap (coded (λ (n : ℕ). n)) (sym e))
+pub told-counted : {z : ℤ} {a : Answer ℕ} → (c : CheckAnswer) → checkOf c ≡ a → z ≡ coded (λ n. n) a → Tells z a
+told-counted (Accepted n) e ez = told-given (sym e) (ez ∙ ap (coded (λ (n : ℕ). n)) (sym e))
+told-counted (Refused why) e ez = told-refused why (sym e) (ez ∙ ap (coded (λ (n : ℕ). n)) (sym e))
 
 module _ {A B : Type 0} (f : A → B) (v : B) {a : Answer A} where
   pub store-given : {x : A} → a ≡ gives x → f x ≡ stored f a v
@@ -88,9 +84,9 @@ module _ {A : Type 0} (v : A) {a : Answer A} where
   pub part-given : {x y : A} → a ≡ gives x → y ≡ x → (pos 0 ≡ coded (λ (x : A). 0) a) × (Tells (pos 0) a × (y ≡ stored (λ (x : A). x) a v))
   part-given e h = answers-given (λ (x : A). 0) e refl (h ∙ store-given (λ (x : A). x) v e)
 
-  pub part-refused : {m n : ℕ} {z : ℤ} → n ≤ 18 → RefusesBy m n a → (why : Refusal) → a ≡ refuses (number why) → mag z < 2 ^ 63 → z ≡ negℤ (pos (number why))
+  pub part-refused : {z : ℤ} → (why : Refusal) → a ≡ refuses (number why) → mag z < 2 ^ 63 → z ≡ negℤ (pos (number why))
       → (toZ w64 (ofZ w64 z) ≡ coded (λ (x : A). 0) a) × (Tells (toZ w64 (ofZ w64 z)) a × (v ≡ stored (λ (x : A). x) a v))
-  part-refused few by why e fits h = answers-refused (λ (x : A). 0) few by why e fits h (store-refused (λ (x : A). x) v e)
+  part-refused why e fits h = answers-refused (λ (x : A). 0) why e fits h (store-refused (λ (x : A). x) v e)
 
 module _ (f : Entry → ℕ) (v : ℕ) {a : Answer Found} where
   pub found-stored : {x : Entry} → a ≡ gives (found x) → f x ≡ storedFound f a v

@@ -1,9 +1,10 @@
--- The refusals' numbers are 1 to 24, and minus a number as the machine makes it. Assumes nothing.
+-- The refusals' numbers are 1 to 18 and 24, and minus a number as the machine makes it. Assumes nothing.
 use mir.Syntax.{w64}
 use mir.Val.{toZ, ofZ, SFits}
 use mir.Facts.{toZ-pos, toZ-ofZ}
 use Prim.Native.Nat.{ℕ, zero, suc, _≤_, _<_, _^_}
-use mathlib.Core.Path.{_≡_, sym, ap, _∙_, subst}
+use mathlib.Core.Path.{_≡_, refl, sym, ap, _∙_, subst}
+use mathlib.Core.Logic.{inl, inr}
 use native.Mathlib.Omega.{arith}
 use borrow.Author.Needs.{sfits-of}
 use lib.IntN.{ℤ, pos, negℤ, _-ℤ_, +ℤ-idl}
@@ -15,27 +16,32 @@ use Rattle.format.specs.declared.Refusal.the-variants.{ExceededMaximumSubtreeDe
 use Rattle.format.specs.declared.Refusal.the-variants.{KeysNotAscending, IteratorLengthMismatch, TooManyEntries, GivenKeysNotAscending, HeaderTooLong}
 use Rattle.format.specs.declared.Refusal.the-variants.{OutputTooShort, IsizeOverflow, OffsetOverflow, InvalidAlignment, KeyFieldOverflow, EntriesOutOfRange}
 use Rattle.format.specs.Refusal.{number}
+use Rattle.codes.specs.Answers.{Listed}
 
-pub number-listed : (why : Refusal) → (1 ≤ number why) × (number why ≤ 24)
-number-listed ArchiveTooLong = (lit≤ tt, lit≤ tt)
-number-listed InvalidSubtreePointer = (lit≤ tt, lit≤ tt)
-number-listed UnalignedPointer = (lit≤ tt, lit≤ tt)
-number-listed InvalidKind = (lit≤ tt, lit≤ tt)
-number-listed ExceededMaximumSubtreeDepth = (lit≤ tt, lit≤ tt)
-number-listed InvalidLength = (lit≤ tt, lit≤ tt)
-number-listed EntriesLengthMismatch = (lit≤ tt, lit≤ tt)
-number-listed HollowNode = (lit≤ tt, lit≤ tt)
-number-listed KeysNotAscending = (lit≤ tt, lit≤ tt)
-number-listed IteratorLengthMismatch = (lit≤ tt, lit≤ tt)
-number-listed TooManyEntries = (lit≤ tt, lit≤ tt)
-number-listed GivenKeysNotAscending = (lit≤ tt, lit≤ tt)
-number-listed HeaderTooLong = (lit≤ tt, lit≤ tt)
-number-listed OutputTooShort = (lit≤ tt, lit≤ tt)
-number-listed IsizeOverflow = (lit≤ tt, lit≤ tt)
-number-listed OffsetOverflow = (lit≤ tt, lit≤ tt)
-number-listed InvalidAlignment = (lit≤ tt, lit≤ tt)
-number-listed KeyFieldOverflow = (lit≤ tt, lit≤ tt)
-number-listed EntriesOutOfRange = (lit≤ tt, lit≤ tt)
+pub number-listed : (why : Refusal) → Listed (number why)
+number-listed ArchiveTooLong = inl (lit≤ tt, lit≤ tt)
+number-listed InvalidSubtreePointer = inl (lit≤ tt, lit≤ tt)
+number-listed UnalignedPointer = inl (lit≤ tt, lit≤ tt)
+number-listed InvalidKind = inl (lit≤ tt, lit≤ tt)
+number-listed ExceededMaximumSubtreeDepth = inl (lit≤ tt, lit≤ tt)
+number-listed InvalidLength = inl (lit≤ tt, lit≤ tt)
+number-listed EntriesLengthMismatch = inl (lit≤ tt, lit≤ tt)
+number-listed HollowNode = inl (lit≤ tt, lit≤ tt)
+number-listed KeysNotAscending = inl (lit≤ tt, lit≤ tt)
+number-listed IteratorLengthMismatch = inl (lit≤ tt, lit≤ tt)
+number-listed TooManyEntries = inl (lit≤ tt, lit≤ tt)
+number-listed GivenKeysNotAscending = inl (lit≤ tt, lit≤ tt)
+number-listed HeaderTooLong = inl (lit≤ tt, lit≤ tt)
+number-listed OutputTooShort = inl (lit≤ tt, lit≤ tt)
+number-listed IsizeOverflow = inl (lit≤ tt, lit≤ tt)
+number-listed OffsetOverflow = inl (lit≤ tt, lit≤ tt)
+number-listed InvalidAlignment = inl (lit≤ tt, lit≤ tt)
+number-listed KeyFieldOverflow = inl (lit≤ tt, lit≤ tt)
+number-listed EntriesOutOfRange = inr refl
+
+pub listed-some : {r : ℕ} → Listed r → (1 ≤ r) × (r ≤ 24)
+listed-some (inl l) = omega (arith, l)
+listed-some (inr e) = omega arith
 
 minus-mag : (n : ℕ) → n < 2 ^ 63 → mag (negℤ (pos n)) < 2 ^ 63
 minus-mag zero h = h

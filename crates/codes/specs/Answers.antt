@@ -1,6 +1,8 @@
 -- Answers as one signed number, and what lent numbers hold afterwards. Assumes nothing: these are definitions.
 use Prim.Native.Nat.{ℕ, zero, suc, _≤_}
 use mathlib.Core.Bool.{Bool, true, false}
+use mathlib.Core.Path.{_≡_}
+use mathlib.Core.Logic.{_⊎_}
 use lib.Dec.{eqb}
 use lib.IntN.{ℤ, pos, negsuc, negℤ}
 use lib.Signed.{_≤ℤ_, _<ℤ_}
@@ -13,7 +15,7 @@ use Rattle.format.specs.declared.Width.{Width}
 use Rattle.format.specs.declared.Width.the-variants.{Two, Four, Eight}
 use Rattle.format.specs.declared.Found.{Found}
 use Rattle.format.specs.declared.Found.the-variants.{Entry as found, Nothing as nothing}
-use Rattle.format.specs.Layout.{Layout, layoutAt}
+use Rattle.format.specs.Layout.{Layout, widthOf}
 use Rattle.format.specs.Refusal.{Answer, gives, refuses}
 use Rattle.format.specs.Align.{Step}
 use Rattle.format.specs.Calls.{Walk, Matched}
@@ -23,10 +25,14 @@ abbrev pub coded : {A : Type 0} → (A → ℕ) → Answer A → ℤ
 coded f (gives a) = pos (f a)
 coded f (refuses r) = negℤ (pos r)
 
--- What the number z of a call tells: from 0 on that something is given, below 0 that it is refused, by one of 1 to 18.
+-- A number of a refusal: one of 1 to 18, or 24.
+abbrev pub Listed : ℕ → Type 0
+Listed r = ((1 ≤ r) × (r ≤ 18)) ⊎ (r ≡ 24)
+
+-- What the number z of a call tells: from 0 on that something is given, below 0 that it is refused, by a listed number.
 abbrev pub Tells : {A : Type 0} → ℤ → Answer A → Type 0
 Tells z (gives a) = pos 0 ≤ℤ z
-Tells z (refuses r) = (z <ℤ pos 0) × (1 ≤ r) × (r ≤ 18)
+Tells z (refuses r) = (z <ℤ pos 0) × Listed r
 
 -- What a place that held x holds afterwards: a part of what is given, or x on a refusal.
 abbrev pub stored : {A B : Type 0} → (A → B) → Answer A → B → B
@@ -99,6 +105,6 @@ packingOf (suc n) = Plus128
 abbrev pub widthBy : ℕ → Width
 widthBy n = elim (eqb n 16) [ true ↦ Two | false ↦ elim (eqb n 64) [ true ↦ Eight | false ↦ Four ] ]
 
--- The layout that a program names so.
-abbrev pub atBits : ℕ → Layout
-atBits n = layoutAt (widthBy n)
+-- A layout by the width's bits and the entries a node.
+abbrev pub layoutBy : ℕ → ℕ → Layout
+layoutBy bits e = record { width = widthOf (widthBy bits); entries = e }

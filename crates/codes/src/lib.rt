@@ -1,14 +1,16 @@
-// Answers, bounds, packings and widths as numbers, for programs in C and Rust.
+// Answers, bounds, packings and layouts as numbers, for programs in C and Rust.
 use format::Bound;
 use format::CheckAnswer;
+use format::Layout;
 use format::Packing;
 use format::Refusal;
 use format::Width;
 ghost use mathlib.Core.Path.{_≡_};
 ghost use Prim.Native.Nat.{ℕ, _<_, _^_};
 ghost use lib.IntN.{pos, negℤ};
+ghost use Rattle.format.specs.Layout.{layoutOf};
 ghost use Rattle.format.specs.Refusal.{gives, checkOf, number};
-ghost use Rattle.codes.specs.Answers.{coded, boundOf, packingOf, widthBy};
+ghost use Rattle.codes.specs.Answers.{coded, boundOf, packingOf, widthBy, layoutBy};
 
 // What is given, as an answer.
 pub fn given(n: usize) -> i64
@@ -60,7 +62,7 @@ pub fn packing(number: u8) -> Packing
 }
 
 // A width by its bits: 16, 64, and 32 for any other number.
-pub fn width(bits: u8) -> Width
+fn width(bits: u8) -> Width
     ensures { λ r. ⌜ r ≡ widthBy bits ⌝ }
 {
     if bits == 16 {
@@ -70,4 +72,12 @@ pub fn width(bits: u8) -> Width
         return Width::Eight;
     }
     Width::Four
+}
+
+// A layout by the width's bits and the entries a node.
+pub fn layout(bits: u8, entries: usize) -> Layout
+    ensures { λ r. ⌜ layoutOf r ≡ layoutBy bits entries ⌝ }
+{
+    let width = width(bits);
+    Layout { width, entries }
 }

@@ -9,7 +9,7 @@ use lib.ListN.{length}
 use Rattle.format.specs.declared.Bound.{Bound}
 use Rattle.format.specs.declared.Packing.{Packing}
 use Rattle.format.specs.Layout.{Layout, Limits, nested}
-use Rattle.format.specs.Refusal.{Answer, gives, refuses, RefusesBy}
+use Rattle.format.specs.Refusal.{Answer, gives, refuses}
 use Rattle.format.specs.Key.{Column, columnBounds}
 use Rattle.format.specs.Check.{Checked, accepted, refused, counted, root, recorded, checkArchive}
 use Rattle.format.specs.Accepted.{Archive}
@@ -20,11 +20,9 @@ use Rattle.format.specs.Written.{written}
 use Rattle.format.specs.Calls.{Walk, Matched, walkCall, rangeCall, columnCall}
 use Rattle.format.specs.Laws.Check.Archive.{list-length}
 use Rattle.format.specs.Laws.Check.Bounds.{holds-bytes}
-use Rattle.format.specs.Laws.Check.Refusals.{check-by}
 use Rattle.format.specs.Laws.Range.List.{select-few}
 use Rattle.format.specs.Laws.Calls.Accepted.{is-archive, is-recorded, walk-refuses, walk-accepted}
 use Rattle.format.specs.Laws.Calls.Certified.{certified-accepts, range-refuses, range-certified, column-ranges, column-uncertified, column-refused}
-use Rattle.lookups.specs.Many.{manyCall}
 use Rattle.fieldmap.specs.Refusals.{given}
 
 module _ (L : Layout) (M : Limits) (s : List ℕ) where
@@ -76,12 +74,3 @@ module _ (L : Layout) (M : Limits) (s : List ℕ) where
           by : (c : Answer Column) → columnBounds P exam eye x y ≡ c → m .written ≤ M .longest
           by (gives c) ec = range-most (c .lower) (c .upper) m (sym (column-ranges L M s P exam eye x y ks vs c ec) ∙ e)
           by (refuses q) ec = absurd (no-column q ec (certify L M s) refl)
-
--- A lookup of many keys is refused where the check refuses.
-pub many-by : (L : Layout) (M : Limits) (s ks vs : List ℕ) → RefusesBy 1 7 (manyCall L M s ks vs)
-unfolding manyCall
-many-by L M s ks vs r e = by (checkArchive L M s) refl
-  where
-    by : (a : Checked) → checkArchive L M s ≡ a → (1 ≤ r) × (r ≤ 7)
-    by (accepted n t) ea = absurd (given (rw (ea, manyCall) at e))
-    by (refused q) ea = check-by L M s r (ap counted ea ∙ (rw (ea, manyCall) at e))

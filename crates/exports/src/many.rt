@@ -1,12 +1,10 @@
 // Many lookups after one check.
 use codes::given;
 use codes::refused;
-use format::Common;
-use format::Layout;
 use readers::ManyAnswer;
 ghost use mathlib.Core.Path.{_≡_};
 ghost use Rattle.format.specs.Layout.{standard};
-ghost use Rattle.codes.specs.Answers.{coded, Tells, atBits};
+ghost use Rattle.codes.specs.Answers.{coded, Tells, layoutBy};
 ghost use Rattle.lookups.specs.Many.{manyCall, manyValues};
 
 // Looks up keys after one check and stores each value that is found at the place of its key. Keys beyond the values' places are not looked up. The number
@@ -14,17 +12,17 @@ ghost use Rattle.lookups.specs.Many.{manyCall, manyValues};
 #[no_mangle]
 pub extern "C" fn fieldmap_lookup_many(
     width: u8,
+    entries: usize,
     archive: &[u8],
     keys: &[u64],
     values: &mut [u64],
 ) -> i64
-    ensures answer { λ r. ⌜ r ≡ coded (λ n. n) (manyCall (atBits width) standard (now (archive .entry)) (now (keys .entry)) (now (values .entry))) ⌝ }
-    ensures told { λ r. ⌜ Tells r (manyCall (atBits width) standard (now (archive .entry)) (now (keys .entry)) (now (values .entry))) ⌝ }
-    ensures values { λ r. ⌜ now (values .exit) ≡ manyValues (atBits width) standard (now (archive .entry)) (now (keys .entry)) (now (values .entry)) ⌝ }
+    ensures answer { λ r. ⌜ r ≡ coded (λ n. n) (manyCall (layoutBy width entries) standard (now (archive .entry)) (now (keys .entry)) (now (values .entry))) ⌝ }
+    ensures told { λ r. ⌜ Tells r (manyCall (layoutBy width entries) standard (now (archive .entry)) (now (keys .entry)) (now (values .entry))) ⌝ }
+    ensures values { λ r. ⌜ now (values .exit) ≡ manyValues (layoutBy width entries) standard (now (archive .entry)) (now (keys .entry)) (now (values .entry)) ⌝ }
 {
-    let width = codes::width(width);
-    let entries = Common::ENTRIES;
-    match readers::look_up_many(archive, Layout { width, entries }, keys, values) {
+    let layout = codes::layout(width, entries);
+    match readers::look_up_many(archive, layout, keys, values) {
         ManyAnswer::Refused(why) => refused(why),
         ManyAnswer::Found(n) => given(n),
     }

@@ -6,12 +6,13 @@ use readers::RangeAnswer;
 ghost use mathlib.Core.Path.{_≡_};
 ghost use Rattle.format.specs.Layout.{standard};
 ghost use Rattle.format.specs.Calls.{rangeCall, rangeKeys, rangeValues, columnCall, columnKeys, columnValues};
-ghost use Rattle.codes.specs.Answers.{coded, Tells, atBits, stored, boundOf, packingOf, rangeWritten, rangeMatching};
+ghost use Rattle.codes.specs.Answers.{coded, Tells, layoutBy, stored, boundOf, packingOf, rangeWritten, rangeMatching};
 
 // Writes keys and values of the entries that meet both bounds until the shorter list is full, and stores how many there are. The number written.
 #[no_mangle]
 pub extern "C" fn fieldmap_range(
     width: u8,
+    entries: usize,
     archive: &[u8],
     lower_kind: u8,
     lower: u64,
@@ -22,24 +23,31 @@ pub extern "C" fn fieldmap_range(
     matching: &mut u64,
 ) -> i64
     ensures answer { λ r. ⌜ r ≡ coded rangeWritten
-        (rangeCall (atBits width) standard (now (archive .entry)) (boundOf «lower_kind» lower) (boundOf «upper_kind» upper)
+        (rangeCall (layoutBy width entries) standard (now (archive .entry)) (boundOf «lower_kind» lower) (boundOf «upper_kind» upper)
         (now (keys .entry)) (now (values .entry))) ⌝ }
-    ensures told { λ r. ⌜ Tells r (rangeCall (atBits width) standard (now (archive .entry)) (boundOf «lower_kind» lower) (boundOf «upper_kind» upper)
+    ensures told { λ r. ⌜ Tells r (rangeCall (layoutBy width entries) standard (now (archive .entry)) (boundOf «lower_kind» lower) (boundOf «upper_kind» upper)
         (now (keys .entry)) (now (values .entry))) ⌝ }
     ensures keys { λ r. ⌜ now (keys .exit)
-        ≡ rangeKeys (atBits width) standard (now (archive .entry)) (boundOf «lower_kind» lower) (boundOf «upper_kind» upper)
+        ≡ rangeKeys (layoutBy width entries) standard (now (archive .entry)) (boundOf «lower_kind» lower) (boundOf «upper_kind» upper)
         (now (keys .entry)) (now (values .entry)) ⌝ }
     ensures values { λ r. ⌜ now (values .exit)
-        ≡ rangeValues (atBits width) standard (now (archive .entry)) (boundOf «lower_kind» lower) (boundOf «upper_kind» upper)
+        ≡ rangeValues (layoutBy width entries) standard (now (archive .entry)) (boundOf «lower_kind» lower) (boundOf «upper_kind» upper)
         (now (keys .entry)) (now (values .entry)) ⌝ }
     ensures matching { λ r. ⌜ now (matching .exit) ≡ stored rangeMatching
-        (rangeCall (atBits width) standard (now (archive .entry)) (boundOf «lower_kind» lower) (boundOf «upper_kind» upper)
+        (rangeCall (layoutBy width entries) standard (now (archive .entry)) (boundOf «lower_kind» lower) (boundOf «upper_kind» upper)
         (now (keys .entry)) (now (values .entry)))
         (now (matching .entry)) ⌝ }
 {
     let from = bound(lower_kind, lower);
     let to = bound(upper_kind, upper);
-    match fieldmap::range(codes::width(width), archive, from, to, keys, values) {
+    match fieldmap::range(
+        codes::layout(width, entries),
+        archive,
+        from,
+        to,
+        keys,
+        values,
+    ) {
         RangeAnswer::Refused(why) => refused(why),
         RangeAnswer::Matched(written, all) => {
             *matching = all as u64;
@@ -52,6 +60,7 @@ pub extern "C" fn fieldmap_range(
 #[no_mangle]
 pub extern "C" fn fieldmap_column(
     width: u8,
+    entries: usize,
     archive: &[u8],
     packing: u8,
     examination: u32,
@@ -63,20 +72,20 @@ pub extern "C" fn fieldmap_column(
     matching: &mut u64,
 ) -> i64
     ensures answer { λ r. ⌜ r ≡ coded rangeWritten
-        (columnCall (atBits width) standard (now (archive .entry)) (packingOf packing) examination eye a b (now (keys .entry)) (now (values .entry))) ⌝ }
+        (columnCall (layoutBy width entries) standard (now (archive .entry)) (packingOf packing) examination eye a b (now (keys .entry)) (now (values .entry))) ⌝ }
     ensures told { λ r. ⌜ Tells r
-        (columnCall (atBits width) standard (now (archive .entry)) (packingOf packing) examination eye a b (now (keys .entry)) (now (values .entry))) ⌝ }
+        (columnCall (layoutBy width entries) standard (now (archive .entry)) (packingOf packing) examination eye a b (now (keys .entry)) (now (values .entry))) ⌝ }
     ensures keys { λ r. ⌜ now (keys .exit)
-        ≡ columnKeys (atBits width) standard (now (archive .entry)) (packingOf packing) examination eye a b (now (keys .entry)) (now (values .entry)) ⌝ }
+        ≡ columnKeys (layoutBy width entries) standard (now (archive .entry)) (packingOf packing) examination eye a b (now (keys .entry)) (now (values .entry)) ⌝ }
     ensures values { λ r. ⌜ now (values .exit)
-        ≡ columnValues (atBits width) standard (now (archive .entry)) (packingOf packing) examination eye a b (now (keys .entry)) (now (values .entry)) ⌝ }
+        ≡ columnValues (layoutBy width entries) standard (now (archive .entry)) (packingOf packing) examination eye a b (now (keys .entry)) (now (values .entry)) ⌝ }
     ensures matching { λ r. ⌜ now (matching .exit) ≡ stored rangeMatching
-        (columnCall (atBits width) standard (now (archive .entry)) (packingOf packing) examination eye a b (now (keys .entry)) (now (values .entry)))
+        (columnCall (layoutBy width entries) standard (now (archive .entry)) (packingOf packing) examination eye a b (now (keys .entry)) (now (values .entry)))
         (now (matching .entry)) ⌝ }
 {
     let by = codes::packing(packing);
     match fieldmap::column(
-        codes::width(width),
+        codes::layout(width, entries),
         archive,
         by,
         examination,

@@ -10,43 +10,44 @@ ghost use Rattle.format.specs.Layout.{standard};
 ghost use Rattle.format.specs.Check.{counted, checkArchive};
 ghost use Rattle.format.specs.Certify.{certify};
 ghost use Rattle.format.specs.Calls.{lookupCall, bytesCall, walkCall, walkKeys, walkValues};
-ghost use Rattle.codes.specs.Answers.{coded, Tells, atBits, stored, foundFlag, partLength, lengthTold, storedFound};
+ghost use Rattle.codes.specs.Answers.{coded, Tells, layoutBy, stored, foundFlag, partLength, lengthTold, storedFound};
 ghost use Rattle.codes.specs.Answers.{entryValue, entryPosition, walkWritten, walkCount};
 
-// The recorded count, or the first fault of 1 to 7.
+// The recorded count, or 24, or the first fault of 1 to 7.
 #[no_mangle]
-pub extern "C" fn fieldmap_check(width: u8, archive: &[u8]) -> i64
-    ensures { λ r. ⌜ r ≡ coded (λ n. n) (counted (checkArchive (atBits width) standard (now (archive .entry)))) ⌝ }
-    ensures told { λ r. ⌜ Tells r (counted (checkArchive (atBits width) standard (now (archive .entry)))) ⌝ }
+pub extern "C" fn fieldmap_check(width: u8, entries: usize, archive: &[u8]) -> i64
+    ensures { λ r. ⌜ r ≡ coded (λ n. n) (counted (checkArchive (layoutBy width entries) standard (now (archive .entry)))) ⌝ }
+    ensures told { λ r. ⌜ Tells r (counted (checkArchive (layoutBy width entries) standard (now (archive .entry)))) ⌝ }
 {
-    counted(fieldmap::check(codes::width(width), archive))
+    counted(fieldmap::check(codes::layout(width, entries), archive))
 }
 
-// The recorded count, or the first fault of 1 to 9.
+// The recorded count, or 24, or the first fault of 1 to 9.
 #[no_mangle]
-pub extern "C" fn fieldmap_certify(width: u8, archive: &[u8]) -> i64
-    ensures { λ r. ⌜ r ≡ coded (λ n. n) (counted (certify (atBits width) standard (now (archive .entry)))) ⌝ }
-    ensures told { λ r. ⌜ Tells r (counted (certify (atBits width) standard (now (archive .entry)))) ⌝ }
+pub extern "C" fn fieldmap_certify(width: u8, entries: usize, archive: &[u8]) -> i64
+    ensures { λ r. ⌜ r ≡ coded (λ n. n) (counted (certify (layoutBy width entries) standard (now (archive .entry)))) ⌝ }
+    ensures told { λ r. ⌜ Tells r (counted (certify (layoutBy width entries) standard (now (archive .entry)))) ⌝ }
 {
-    counted(fieldmap::certify(codes::width(width), archive))
+    counted(fieldmap::certify(codes::layout(width, entries), archive))
 }
 
 // Stores the value of the entry that a lookup finds and the position of the value's first byte and answers 1, or answers 0 where it finds none.
 #[no_mangle]
 pub extern "C" fn fieldmap_lookup(
     width: u8,
+    entries: usize,
     archive: &[u8],
     key: u64,
     value: &mut u64,
     position: &mut u64,
 ) -> i64
-    ensures answer { λ r. ⌜ r ≡ coded foundFlag (lookupCall (atBits width) standard (now (archive .entry)) key) ⌝ }
-    ensures told { λ r. ⌜ Tells r (lookupCall (atBits width) standard (now (archive .entry)) key) ⌝ }
-    ensures value { λ r. ⌜ now (value .exit) ≡ storedFound entryValue (lookupCall (atBits width) standard (now (archive .entry)) key) (now (value .entry)) ⌝ }
+    ensures answer { λ r. ⌜ r ≡ coded foundFlag (lookupCall (layoutBy width entries) standard (now (archive .entry)) key) ⌝ }
+    ensures told { λ r. ⌜ Tells r (lookupCall (layoutBy width entries) standard (now (archive .entry)) key) ⌝ }
+    ensures value { λ r. ⌜ now (value .exit) ≡ storedFound entryValue (lookupCall (layoutBy width entries) standard (now (archive .entry)) key) (now (value .entry)) ⌝ }
     ensures position { λ r. ⌜ now (position .exit)
-        ≡ storedFound entryPosition (lookupCall (atBits width) standard (now (archive .entry)) key) (now (position .entry)) ⌝ }
+        ≡ storedFound entryPosition (lookupCall (layoutBy width entries) standard (now (archive .entry)) key) (now (position .entry)) ⌝ }
 {
-    match fieldmap::lookup(codes::width(width), archive, key) {
+    match fieldmap::lookup(codes::layout(width, entries), archive, key) {
         LookupAnswer::Refused(why) => refused(why),
         LookupAnswer::Nothing => 0,
         LookupAnswer::Entry(e) => {
@@ -60,15 +61,21 @@ pub extern "C" fn fieldmap_lookup(
 // The eight bytes of the value that a lookup finds as a part of the archive: stores where the part starts and answers its length, 8. Where it finds none
 // the part is empty: the answer is 0, and the start stays.
 #[no_mangle]
-pub extern "C" fn fieldmap_lookup_bytes(width: u8, archive: &[u8], key: u64, start: &mut u64) -> i64
-    ensures answer { λ r. ⌜ r ≡ coded partLength (lookupCall (atBits width) standard (now (archive .entry)) key) ⌝ }
-    ensures told { λ r. ⌜ Tells r (lookupCall (atBits width) standard (now (archive .entry)) key) ⌝ }
+pub extern "C" fn fieldmap_lookup_bytes(
+    width: u8,
+    entries: usize,
+    archive: &[u8],
+    key: u64,
+    start: &mut u64,
+) -> i64
+    ensures answer { λ r. ⌜ r ≡ coded partLength (lookupCall (layoutBy width entries) standard (now (archive .entry)) key) ⌝ }
+    ensures told { λ r. ⌜ Tells r (lookupCall (layoutBy width entries) standard (now (archive .entry)) key) ⌝ }
     ensures start { λ r. ⌜ now (start .exit)
-        ≡ storedFound entryPosition (lookupCall (atBits width) standard (now (archive .entry)) key) (now (start .entry)) ⌝ }
+        ≡ storedFound entryPosition (lookupCall (layoutBy width entries) standard (now (archive .entry)) key) (now (start .entry)) ⌝ }
     ensures part { λ r. ⌜ take (lengthTold r) (drop (now (start .exit)) (now (archive .entry)))
-        ≡ bytesCall (atBits width) standard (now (archive .entry)) key ⌝ }
+        ≡ bytesCall (layoutBy width entries) standard (now (archive .entry)) key ⌝ }
 {
-    match fieldmap::lookup(codes::width(width), archive, key) {
+    match fieldmap::lookup(codes::layout(width, entries), archive, key) {
         LookupAnswer::Refused(fault) => refused(fault),
         LookupAnswer::Nothing => 0,
         LookupAnswer::Entry(e) => {
@@ -82,20 +89,21 @@ pub extern "C" fn fieldmap_lookup_bytes(width: u8, archive: &[u8], key: u64, sta
 #[no_mangle]
 pub extern "C" fn fieldmap_walk(
     width: u8,
+    entries: usize,
     archive: &[u8],
     keys: &mut [u64],
     values: &mut [u64],
     count: &mut u64,
 ) -> i64
     ensures answer { λ r. ⌜ r
-        ≡ coded walkWritten (walkCall (atBits width) standard (now (archive .entry)) (now (keys .entry)) (now (values .entry))) ⌝ }
-    ensures told { λ r. ⌜ Tells r (walkCall (atBits width) standard (now (archive .entry)) (now (keys .entry)) (now (values .entry))) ⌝ }
-    ensures keys { λ r. ⌜ now (keys .exit) ≡ walkKeys (atBits width) standard (now (archive .entry)) (now (keys .entry)) (now (values .entry)) ⌝ }
-    ensures values { λ r. ⌜ now (values .exit) ≡ walkValues (atBits width) standard (now (archive .entry)) (now (keys .entry)) (now (values .entry)) ⌝ }
+        ≡ coded walkWritten (walkCall (layoutBy width entries) standard (now (archive .entry)) (now (keys .entry)) (now (values .entry))) ⌝ }
+    ensures told { λ r. ⌜ Tells r (walkCall (layoutBy width entries) standard (now (archive .entry)) (now (keys .entry)) (now (values .entry))) ⌝ }
+    ensures keys { λ r. ⌜ now (keys .exit) ≡ walkKeys (layoutBy width entries) standard (now (archive .entry)) (now (keys .entry)) (now (values .entry)) ⌝ }
+    ensures values { λ r. ⌜ now (values .exit) ≡ walkValues (layoutBy width entries) standard (now (archive .entry)) (now (keys .entry)) (now (values .entry)) ⌝ }
     ensures count { λ r. ⌜ now (count .exit)
-        ≡ stored walkCount (walkCall (atBits width) standard (now (archive .entry)) (now (keys .entry)) (now (values .entry))) (now (count .entry)) ⌝ }
+        ≡ stored walkCount (walkCall (layoutBy width entries) standard (now (archive .entry)) (now (keys .entry)) (now (values .entry))) (now (count .entry)) ⌝ }
 {
-    match fieldmap::walk(codes::width(width), archive, keys, values) {
+    match fieldmap::walk(codes::layout(width, entries), archive, keys, values) {
         WalkAnswer::Refused(why) => refused(why),
         WalkAnswer::Walked(written, all) => {
             *count = all as u64;

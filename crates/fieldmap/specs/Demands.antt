@@ -1,7 +1,7 @@
 -- What is demanded of the calls, as theorems about what they promise: 1, each answers or gives a listed refusal; 2, they do what the crate does; 3, what
 -- holds of accepted, certified and built archives. The words in quotes are the mission's. The calls' contracts equate each answer, and each lent list
--- afterwards, with a definition of `format` at `standard` and the layout of the width that is named; the theorems speak of these definitions, for all
--- widths and arguments. Assumes nothing.
+-- afterwards, with a definition of `format` at `standard` and the layout that is named; the theorems speak of these definitions, for all layouts and
+-- arguments. Assumes nothing.
 use Prim.Native.Nat.{ℕ, _^_, _≤_, _<_}
 use mathlib.Core.Path.{_≡_, sym, _∙_, ap}
 use mathlib.Core.Logic.{_≢_, _↔_, _⊎_}
@@ -16,8 +16,8 @@ use Rattle.format.specs.declared.Entry.{Entry}
 use Rattle.format.specs.declared.Found.the-variants.{Entry as found, Nothing as nothing}
 use Rattle.format.specs.declared.Bound.{Bound}
 use Rattle.format.specs.declared.Packing.{Packing}
-use Rattle.format.specs.Layout.{Width, Layout, atWidth, standard}
-use Rattle.format.specs.Refusal.{Answer, gives, refuses, RefusesBy}
+use Rattle.format.specs.Layout.{Layout, standard}
+use Rattle.format.specs.Refusal.{Answer, gives, refuses, From, RefusesBy, RefusesAt}
 use Rattle.format.specs.Bytes.{AllWords}
 use Rattle.format.specs.RelPtr.{at, target, signedOffset, storedOffset, absentOffset}
 use Rattle.format.specs.Align.{alignStep}
@@ -77,17 +77,14 @@ demand-1-pack P exam eye x y presentation = pack-by P exam eye x y presentation
 pub demand-1-unpack : (P : Packing) (k : ℕ) → k < 2 ^ 64 → let f = fieldsOf P k in packKey P (f .examination) (f .eye) (f .x) (f .y) (f .presentation) ≡ gives k
 demand-1-unpack P k l = pack-unpack P k l
 
--- ---- the calls that build, check or read, at the layout of the width that the caller names
+-- ---- the calls that build, check or read, at the layout that the caller names
 
-module _ (w : Width) where
-  abbrev L : Layout
-  L = atWidth w
-
-  -- Check refuses only by 1 to 7, certify by 1 to 9.
-  pub demand-1-check : (s : List ℕ) → RefusesBy 1 7 (counted (checkArchive L standard s))
+module _ (L : Layout) where
+  -- Check and certify refuse by 24 where the entries a node are outside 3 to 15, else check only by 1 to 7, certify by 1 to 9.
+  pub demand-1-check : (s : List ℕ) → RefusesAt L (From 1 7) (counted (checkArchive L standard s))
   demand-1-check s = check-by L standard s
 
-  pub demand-1-certify : (s : List ℕ) → RefusesBy 1 9 (counted (certify L standard s))
+  pub demand-1-certify : (s : List ℕ) → RefusesAt L (From 1 9) (counted (certify L standard s))
   demand-1-certify s = certify-by L standard s
 
   -- What check refuses, every reader refuses, by the same number; what certify refuses, range and column.
@@ -109,7 +106,7 @@ module _ (w : Width) where
   demand-1-certify-refused s r e =
       record { range = range-refuses L standard s r e; column = λ P exam eye a b ks vs. column-uncertified L standard s P exam eye a b ks vs r e }
 
-  -- A lookup that refuses: only where check does, so by 1 to 7. The second form then returns the empty part, at the archive's start.
+  -- A lookup that refuses: only where check does, by the same number. The second form then returns the empty part, at the archive's start.
   pub record LookupRefused (s : List ℕ) (k r : ℕ) : Type 0 where
     pub check : counted (checkArchive L standard s) ≡ refuses r
     pub part : bytesCall L standard s k ≡ []
@@ -131,7 +128,7 @@ module _ (w : Width) where
       let c = walk-refused L standard s ks vs r e in
       record { check = c; keys = walk-keys-refuses L standard s r c ks vs; values = walk-values-refuses L standard s r c ks vs }
 
-  -- A range that refuses: only where certify does, so by 1 to 9.
+  -- A range that refuses: only where certify does.
   pub record RangeRefused (s : List ℕ) (lo hi : Bound) (ks vs : List ℕ) (r : ℕ) : Type 0 where
     pub certifying : counted (certify L standard s) ≡ refuses r
     pub keys : rangeKeys L standard s lo hi ks vs ≡ ks
@@ -155,17 +152,17 @@ module _ (w : Width) where
       let (n, kept) = column-refused-by L standard s P exam eye a b ks vs r e in
       record { number = n; keys = kept .0; values = kept .1 }
 
-  -- A build refuses only by 10 to 14 and 16, and leaves the output.
-  pub demand-1-build : (ks vs : List ℕ) (h room r : ℕ) → build L ks vs h room ≡ refuses r → ((10 ≤ r) × (r ≤ 14)) ⊎ (r ≡ 16)
-  demand-1-build ks vs h room r e = build-by L (lit≤ tt) (lit≤ tt) ks vs h room r e
+  -- A build refuses by 24 outside 3 to 15, else only by 10 to 14 and 16, and leaves the output.
+  pub demand-1-build : (ks vs : List ℕ) (h room : ℕ) → RefusesAt L (λ r. From 10 14 r ⊎ (r ≡ 16)) (build L ks vs h room)
+  demand-1-build ks vs h room = build-by L ks vs h room
 
   pub demand-1-output : (ks vs : List ℕ) (h : ℕ) (out : List ℕ) (r : ℕ) → build L ks vs h (length out) ≡ refuses r → outAfter L ks vs h out ≡ out
   unfolding outAfter
   demand-1-output ks vs h out r e = ap (λ (a : Answer ℕ). outBy L a h (pairs ks vs) out) e
 
-  -- The length for so many entries is refused only by 11, 13 and 16.
-  pub demand-1-length : (n h r : ℕ) → buildLength L n h ≡ refuses r → (r ≡ 11) ⊎ ((r ≡ 13) ⊎ (r ≡ 16))
-  demand-1-length n h r e = length-by L (lit≤ tt) (lit≤ tt) n h r e
+  -- The length for so many entries is refused by 24 outside 3 to 15, else only by 11, 13 and 16.
+  pub demand-1-length : (n h : ℕ) → RefusesAt L (λ r. (r ≡ 11) ⊎ ((r ≡ 13) ⊎ (r ≡ 16))) (buildLength L n h)
+  demand-1-length n h = length-by L n h
 
   -- ---- demand 2: "they equal the crate's .. proved from its definitions". The definitions of check, lookup and walk are transliterations of the
   -- crate's `verify`, `get_key_value_raw` and `visit_raw`; the range and the builder are proved equal to theirs.
@@ -173,15 +170,15 @@ module _ (w : Width) where
   -- What the crate's iterator gives, on certified bytes and bounds that do not cross.
   pub demand-2-range : (s : List ℕ) (n : ℕ) → counted (certify L standard s) ≡ gives n → (lo hi : Bound) → crosses lo hi ≡ false
       → Yields L standard s (new L standard s lo hi) (range L standard s lo hi)
-  demand-2-range s n e lo hi c = range-yields L standard s (lit≤ tt) (is-certified L standard s n e) lo hi c
+  demand-2-range s n e lo hi c = let C = is-certified L standard s n e in range-yields L standard s (omega (arith, C .archive .least)) C lo hi c
 
   -- The crate's loop meets no `unwrap` of nothing and leaves the archive's bytes.
   pub record Streamed (header : List ℕ) (es : List KeyValue) : Type 0 where
     pub panics : (p : ℕ) → serialize L es p .panics ≡ false
     pub bytes : streamed L header es ≡ archive L header es
 
-  pub demand-2-build : (header : List ℕ) (es : List KeyValue) → Streamed header es
-  demand-2-build header es = record { panics = never-panics L (lit≤ tt) es; bytes = streamed-archive L (lit≤ tt) header es }
+  pub demand-2-build : 3 ≤ L .entries → (header : List ℕ) (es : List KeyValue) → Streamed header es
+  demand-2-build least header es = record { panics = never-panics L (omega arith) es; bytes = streamed-archive L (omega arith) header es }
 
   -- ---- demand 3, "Whatever bytes are handed in as an archive: if the check accepts them"
 
@@ -265,7 +262,8 @@ module _ (w : Width) where
           values = range-values-certified L standard s n certifies lo hi ks vs;
         }
 
-  -- "And for every strictly ascending list that the builder takes": it takes exactly what 10 to 14 let through, with offsets that fit the width.
+  -- "And for every strictly ascending list that the builder takes": it takes exactly what 10 to 14 let through, at a layout
+  -- from 3 to 15 and with offsets that fit the width.
   pub demand-3-takes : (ks vs : List ℕ) (h room n : ℕ) → (build L ks vs h room ≡ gives n) ↔ (LayoutTakes L ks vs h × Taken L ks vs h room n)
   demand-3-takes ks vs h room n = (both L ks vs h room n, λ t. taken-gives L ks vs h room n (t .0) (t .1))
 

@@ -1,5 +1,5 @@
--- By which numbers each call refuses: a reader as check or certify, whichever it runs, the column query also by 18, the builder by 10 to 14 and 16, its
--- length by 11, 13 and 16, the parts by 15 to 17, key packing by 18. Assumes nothing.
+-- By which numbers each call refuses: a reader as check or certify, whichever it runs, the column query also by 18; the builder by 24 where the entries a
+-- node are outside 3 to 15 and else by 10 to 14 and 16, its length by 24 and by 11, 13 and 16; the parts by 15 to 17, key packing by 18. Assumes nothing.
 use Prim.Native.Nat.{ℕ, _+_, _^_, _≤_, _<_}
 use mathlib.Core.Path.{_≡_, refl, sym, ap, subst, _∙_}
 use mathlib.Core.Logic.{_⊎_, inl, inr}
@@ -13,8 +13,8 @@ use lib.Signed.{mag}
 use borrow.Author.Tests.{ltb-true, ltb-false}
 use Rattle.format.specs.declared.Bound.{Bound}
 use Rattle.format.specs.declared.Packing.{Packing}
-use Rattle.format.specs.Layout.{Layout, Limits, pointer}
-use Rattle.format.specs.Refusal.{Answer, gives, refuses, provided, andThen, RefusesBy}
+use Rattle.format.specs.Layout.{Layout, entriesInRange, Limits, pointer}
+use Rattle.format.specs.Refusal.{Answer, gives, refuses, provided, andThen, From, RefusesBy, RefusesAt}
 use Rattle.format.specs.RelPtr.{fitSigned, signedOffset, storedOffset, absentOffset}
 use Rattle.format.specs.Align.{isAlignment, zerosTo, alignStep}
 use Rattle.format.specs.Key.{Column, packKey, columnBounds}
@@ -24,9 +24,9 @@ use Rattle.format.specs.Build.{treeOf, start, behind, pairs, rises, build, buil
 use Rattle.format.specs.Offsets.{archiveEmplaces}
 use Rattle.format.specs.Calls.{lookupCall, walkCall, rangeCall, columnCall, columnKeys, columnValues}
 use Rattle.format.specs.Laws.Numbers.RelPtr.{absent-last, stored-15, offset-behind, fits-refused}
-use Rattle.format.specs.Laws.Check.Refusals.{check-by, certify-by}
+use Rattle.format.specs.Laws.Numbers.Widths.{range-in}
 use Rattle.format.specs.Laws.Build.BytesAt.{absent-fits}
-use Rattle.format.specs.Laws.Build.Taken.{passes, in-range, by-16}
+use Rattle.format.specs.Laws.Build.Taken.{passes, fails, by-16}
 use Rattle.format.specs.Laws.Build.Certifies.{wide-gives}
 use Rattle.format.specs.Laws.Build.Lengths.{wide-length}
 use Rattle.format.specs.Laws.Calls.Accepted.{lookup-refuses, lookup-accepted, walk-refuses, walk-accepted}
@@ -108,70 +108,64 @@ columns-by P exam eye a b =
 
 -- ---- the builder
 
-module _ (L : Layout) (least : 3 ≤ L .entries) (most : L .entries ≤ 15) where
+module _ (L : Layout) where
   -- The numbers of a build, and of its length.
   abbrev OfBuild : ℕ → Type 0
-  OfBuild r = ((10 ≤ r) × (r ≤ 14)) ⊎ (r ≡ 16)
+  OfBuild r = From 10 14 r ⊎ (r ≡ 16)
 
   abbrev OfLength : ℕ → Type 0
   OfLength r = (r ≡ 11) ⊎ ((r ≡ 13) ⊎ (r ≡ 16))
 
-  pub build-by : (ks vs : List ℕ) (h room r : ℕ) → build L ks vs h room ≡ refuses r → OfBuild r
+  pub build-by : (ks vs : List ℕ) (h room : ℕ) → RefusesAt L OfBuild (build L ks vs h room)
   unfolding build
-  build-by ks vs h room r e =
+  build-by ks vs h room =
       let t = treeOf L (pairs ks vs) in
-      let n = h + length (behind L h t (length ks)) in
-      by-test OfBuild (eqb (length ks) (length vs)) 10 _ (inl (lit≤ tt, lit≤ tt))
-      (by-test OfBuild (leb (length ks) 40000) 11 _ (inl (lit≤ tt, lit≤ tt))
-      (by-test OfBuild (rises ks) 12 _ (inl (lit≤ tt, lit≤ tt))
-      (by-test OfBuild (leb h 4096) 13 _ (inl (lit≤ tt, lit≤ tt))
-      (by-test OfBuild (leb n room) 14 _ (inl (lit≤ tt, lit≤ tt))
-      (by-test OfBuild (archiveEmplaces L t (start L t h)) 16 (gives n) (inr refl) (λ r e. absurd (given e)))))))
-      r (sym (passes (in-range L least most) 24 _) ∙ e)
+      let n = h + length (behind L h t (length ks)) in (
+        λ o. fails o 24 _,
+        λ i r e.
+            by-test OfBuild (eqb (length ks) (length vs)) 10 _ (inl (lit≤ tt, lit≤ tt))
+            (by-test OfBuild (leb (length ks) 40000) 11 _ (inl (lit≤ tt, lit≤ tt))
+            (by-test OfBuild (rises ks) 12 _ (inl (lit≤ tt, lit≤ tt))
+            (by-test OfBuild (leb h 4096) 13 _ (inl (lit≤ tt, lit≤ tt))
+            (by-test OfBuild (leb n room) 14 _ (inl (lit≤ tt, lit≤ tt))
+            (by-test OfBuild (archiveEmplaces L t (start L t h)) 16 (gives n) (inr refl) (λ r e. absurd (given e)))))))
+            r (sym (passes i 24 _) ∙ e),
+      )
 
-  pub length-by : (n h r : ℕ) → buildLength L n h ≡ refuses r → OfLength r
+  pub length-by : (n h : ℕ) → RefusesAt L OfLength (buildLength L n h)
   unfolding buildLength
-  length-by n h r e =
-      let t = treeOf L (replicate n (record { key = 0; value = 0 })) in
-      by-test OfLength (leb n 40000) 11 _ (inl refl)
-      (by-test OfLength (leb h 4096) 13 _ (inr (inl refl))
-      (by-test OfLength (archiveEmplaces L t (start L t h)) 16 (gives (h + length (behind L h t n))) (inr (inr refl)) (λ r e. absurd (given e))))
-      r (sym (passes (in-range L least most) 24 _) ∙ e)
-
-  -- The same as two ends.
-  pub build-up-to : (ks vs : List ℕ) (h room : ℕ) → RefusesBy 10 16 (build L ks vs h room)
-  build-up-to ks vs h room r e = go (build-by ks vs h room r e)
-    where
-      go : OfBuild r → (10 ≤ r) × (r ≤ 16)
-      go (inl b) = omega (arith, b)
-      go (inr z) = omega arith
-
-  pub length-up-to : (n h : ℕ) → RefusesBy 11 16 (buildLength L n h)
-  length-up-to n h r e = go (length-by n h r e)
-    where
-      go : OfLength r → (11 ≤ r) × (r ≤ 16)
-      go (inl z) = omega arith
-      go (inr (inl z)) = omega arith
-      go (inr (inr z)) = omega arith
+  length-by n h =
+      let t = treeOf L (replicate n (record { key = 0; value = 0 })) in (
+        λ o. fails o 24 _,
+        λ i r e.
+            by-test OfLength (leb n 40000) 11 _ (inl refl)
+            (by-test OfLength (leb h 4096) 13 _ (inr (inl refl))
+            (by-test OfLength (archiveEmplaces L t (start L t h)) 16 (gives (h + length (behind L h t n))) (inr (inr refl)) (λ r e. absurd (given e))))
+            r (sym (passes i 24 _) ∙ e),
+      )
 
   -- With 32 and 64 bits 16 does not arise.
   module _ (w : 4 ≤ pointer L) where
-    pub wide-build-by : (ks vs : List ℕ) (h room : ℕ) → RefusesBy 10 14 (build L ks vs h room)
-    wide-build-by ks vs h room r e = go (build-by ks vs h room r e)
+    pub wide-build-by : (ks vs : List ℕ) (h room : ℕ) → RefusesAt L (From 10 14) (build L ks vs h room)
+    wide-build-by ks vs h room = (build-by ks vs h room .0, λ i r e. go i r e (build-by ks vs h room .1 i r e))
       where
-        go : OfBuild r → (10 ≤ r) × (r ≤ 14)
-        go (inl b) = b
-        go (inr z) =
+        go : entriesInRange L ≡ true → (r : ℕ) → build L ks vs h room ≡ refuses r → OfBuild r → From 10 14 r
+        go i r e (inl b) = b
+        go i r e (inr z) =
+            let (least, most) = range-in L i in
             let (T, off) = by-16 L ks vs h room least most .0 (e ∙ ap refuses z) in
             absurd (given (sym (wide-gives L ks vs h room least most w _ T) ∙ e))
 
     abbrev OfWideLength : ℕ → Type 0
     OfWideLength r = (r ≡ 11) ⊎ (r ≡ 13)
 
-    pub wide-length-by : (n h r : ℕ) → buildLength L n h ≡ refuses r → OfWideLength r
-    wide-length-by n h r e =
-        by-test OfWideLength (leb n 40000) 11 _ (inl refl) (by-test OfWideLength (leb h 4096) 13 _ (inr refl) (λ r e. absurd (given e))) r
-        (sym (wide-length L n h least most w) ∙ e)
+    pub wide-length-by : (n h : ℕ) → RefusesAt L OfWideLength (buildLength L n h)
+    wide-length-by n h = (
+      length-by n h .0,
+      λ i r e.
+          by-test OfWideLength (leb n 40000) 11 _ (inl refl) (by-test OfWideLength (leb h 4096) 13 _ (inr refl) (λ r e. absurd (given e))) r
+          (sym (wide-length L n h (range-in L i .0) (range-in L i .1) w) ∙ e),
+    )
 
 -- ---- the readers
 
@@ -191,15 +185,6 @@ module _ (L : Layout) (M : Limits) (s : List ℕ) where
 
   pub range-refused : (lo hi : Bound) (ks vs : List ℕ) (r : ℕ) → rangeCall L M s lo hi ks vs ≡ refuses r → counted (certify L M s) ≡ refuses r
   range-refused lo hi ks vs = refused-first _ _ (λ n e. (_, range-certified L M s n e lo hi ks vs)) (λ q e. range-refuses L M s q e lo hi ks vs)
-
-  pub lookup-by : (k : ℕ) → RefusesBy 1 7 (lookupCall L M s k)
-  lookup-by k r e = check-by L M s r (lookup-refused k r e)
-
-  pub walk-by : (ks vs : List ℕ) → RefusesBy 1 7 (walkCall L M s ks vs)
-  walk-by ks vs r e = check-by L M s r (walk-refused ks vs r e)
-
-  pub range-by : (lo hi : Bound) (ks vs : List ℕ) → RefusesBy 1 9 (rangeCall L M s lo hi ks vs)
-  range-by lo hi ks vs r e = certify-by L M s r (range-refused lo hi ks vs r e)
 
   -- The column query: certify's refusals, then 18; the lent lists stay.
   module _ (P : Packing) (exam eye : ℕ) (a b : ℤ) (ks vs : List ℕ) (r : ℕ) (e : columnCall L M s P exam eye a b ks vs ≡ refuses r) where
@@ -231,10 +216,3 @@ module _ (L : Layout) (M : Limits) (s : List ℕ) where
           no-bounds q eb (counted (certify L M s)) refl,
           (column-keys-refused L M s P exam eye a b ks vs q eb, column-values-refused L M s P exam eye a b ks vs q eb),
         )
-
-  pub column-by : (P : Packing) (exam eye : ℕ) (a b : ℤ) (ks vs : List ℕ) → RefusesBy 1 18 (columnCall L M s P exam eye a b ks vs)
-  column-by P exam eye a b ks vs r e = go (column-refused-by P exam eye a b ks vs r e .0)
-    where
-      go : (counted (certify L M s) ≡ refuses r) ⊎ (r ≡ 18) → (1 ≤ r) × (r ≤ 18)
-      go (inl c) = omega (arith, certify-by L M s r c)
-      go (inr z) = omega arith

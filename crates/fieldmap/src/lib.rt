@@ -1,13 +1,12 @@
-// The calls of the archived field map. Any bytes, lists, positions and lengths may be passed: each call answers, or gives a listed refusal and
-// leaves what was lent as it was. An archive is built, checked and read at the width of its offsets and counts, with five entries a node.
+// The calls of the archived field map. Any bytes, lists, positions, lengths and layouts may be passed: each call answers, or gives a listed refusal and
+// leaves what was lent as it was. An archive is built, checked and read at the layout that the caller names: the width of its offsets and counts, and the
+// entries a node. Outside 3 to 15 of them every such call is refused by 24.
 use builder::build::BuildAnswer;
 use format::Bound;
 use format::CheckAnswer;
-use format::Common;
 use format::Layout;
 use format::Packing;
 use format::Refusal;
-use format::Width;
 use offsets::rel_ptr::Distance;
 use offsets::rel_ptr::Stored;
 use offsets::ser::writer::Aligned;
@@ -21,7 +20,7 @@ use readers::WalkAnswer;
 ghost use mathlib.Core.Path.{_≡_};
 ghost use lib.ListN.{length};
 ghost use denote.Ref.{ptr};
-ghost use Rattle.format.specs.Layout.{layoutAt, standard};
+ghost use Rattle.format.specs.Layout.{layoutOf, standard};
 ghost use Rattle.format.specs.Refusal.{checkOf, number};
 ghost use Rattle.format.specs.RelPtr.{signedOffset, storedOffset, absentOffset};
 ghost use Rattle.format.specs.Align.{alignStep};
@@ -36,54 +35,49 @@ ghost use Rattle.builder.specs.Answers.{builtOf};
 ghost use Rattle.perimetry.specs.Answers.{packedOf, unpackedOf};
 ghost use Rattle.readers.specs.Answers.{lookupOf, walkOf, rangeOf};
 
-// The recorded count, or the first fault of 1 to 7.
-pub fn check(width: Width, archive: &[u8]) -> CheckAnswer
-    ensures { λ r. ⌜ checkOf r ≡ counted (checkArchive (layoutAt width) standard (now (archive .entry))) ⌝ }
+// The recorded count, or 24, or the first fault of 1 to 7.
+pub fn check(layout: Layout, archive: &[u8]) -> CheckAnswer
+    ensures { λ r. ⌜ checkOf r ≡ counted (checkArchive (layoutOf layout) standard (now (archive .entry))) ⌝ }
 {
-    let entries = Common::ENTRIES;
-    validation::check::check(archive, Layout { width, entries })
+    validation::check::check(archive, layout)
 }
 
-// The recorded count, or the first fault of 1 to 9.
-pub fn certify(width: Width, archive: &[u8]) -> CheckAnswer
-    ensures { λ r. ⌜ checkOf r ≡ counted (certify (layoutAt width) standard (now (archive .entry))) ⌝ }
+// The recorded count, or 24, or the first fault of 1 to 9.
+pub fn certify(layout: Layout, archive: &[u8]) -> CheckAnswer
+    ensures { λ r. ⌜ checkOf r ≡ counted (certify (layoutOf layout) standard (now (archive .entry))) ⌝ }
 {
-    let entries = Common::ENTRIES;
-    readers::certify(archive, Layout { width, entries })
+    readers::certify(archive, layout)
 }
 
 // The entry that rkyv's search finds. On a certified archive it is the list's with that key, or there is none; on one that is only accepted the
 // search can miss an entry that the walk shows.
-pub fn lookup(width: Width, archive: &[u8], key: u64) -> LookupAnswer
-    ensures { λ r. ⌜ lookupOf r ≡ lookupCall (layoutAt width) standard (now (archive .entry)) key ⌝ }
+pub fn lookup(layout: Layout, archive: &[u8], key: u64) -> LookupAnswer
+    ensures { λ r. ⌜ lookupOf r ≡ lookupCall (layoutOf layout) standard (now (archive .entry)) key ⌝ }
 {
-    let entries = Common::ENTRIES;
-    readers::lookup(archive, Layout { width, entries }, key)
+    readers::lookup(archive, layout, key)
 }
 
 // The eight bytes of the value that a lookup finds, as a part of the archive; where it finds none or the archive is refused, the empty part at its
 // start.
-pub fn lookup_bytes<'a>(width: Width, archive: &'a [u8], key: u64) -> &'a [u8]
-    ensures place { λ r. ⌜ ptr r ≡ placeCall (layoutAt width) standard (now (archive .entry)) (ptr (archive .entry)) key ⌝ }
-    ensures bytes { λ r. ⌜ now r ≡ bytesCall (layoutAt width) standard (now (archive .entry)) key ⌝ }
+pub fn lookup_bytes<'a>(layout: Layout, archive: &'a [u8], key: u64) -> &'a [u8]
+    ensures place { λ r. ⌜ ptr r ≡ placeCall (layoutOf layout) standard (now (archive .entry)) (ptr (archive .entry)) key ⌝ }
+    ensures bytes { λ r. ⌜ now r ≡ bytesCall (layoutOf layout) standard (now (archive .entry)) key ⌝ }
 {
-    let entries = Common::ENTRIES;
-    readers::lookup_bytes(archive, Layout { width, entries }, key)
+    readers::lookup_bytes(archive, layout, key)
 }
 
 // Writes keys and values in the order of `visit` until the shorter list is full.
-pub fn walk(width: Width, archive: &[u8], keys: &mut [u64], values: &mut [u64]) -> WalkAnswer
-    ensures answer { λ r. ⌜ walkOf r ≡ walkCall (layoutAt width) standard (now (archive .entry)) (now (keys .entry)) (now (values .entry)) ⌝ }
-    ensures keys { λ r. ⌜ now (keys .exit) ≡ walkKeys (layoutAt width) standard (now (archive .entry)) (now (keys .entry)) (now (values .entry)) ⌝ }
-    ensures values { λ r. ⌜ now (values .exit) ≡ walkValues (layoutAt width) standard (now (archive .entry)) (now (keys .entry)) (now (values .entry)) ⌝ }
+pub fn walk(layout: Layout, archive: &[u8], keys: &mut [u64], values: &mut [u64]) -> WalkAnswer
+    ensures answer { λ r. ⌜ walkOf r ≡ walkCall (layoutOf layout) standard (now (archive .entry)) (now (keys .entry)) (now (values .entry)) ⌝ }
+    ensures keys { λ r. ⌜ now (keys .exit) ≡ walkKeys (layoutOf layout) standard (now (archive .entry)) (now (keys .entry)) (now (values .entry)) ⌝ }
+    ensures values { λ r. ⌜ now (values .exit) ≡ walkValues (layoutOf layout) standard (now (archive .entry)) (now (keys .entry)) (now (values .entry)) ⌝ }
 {
-    let entries = Common::ENTRIES;
-    readers::walk(archive, Layout { width, entries }, keys, values)
+    readers::walk(archive, layout, keys, values)
 }
 
 // Of a certified archive, writes keys and values of the entries that meet both bounds until the shorter list is full, and counts them all.
 pub fn range(
-    width: Width,
+    layout: Layout,
     archive: &[u8],
     lower: Bound,
     upper: Bound,
@@ -91,28 +85,20 @@ pub fn range(
     values: &mut [u64],
 ) -> RangeAnswer
     ensures answer { λ r. ⌜ rangeOf r
-        ≡ rangeCall (layoutAt width) standard (now (archive .entry)) lower upper (now (keys .entry)) (now (values .entry)) ⌝ }
+        ≡ rangeCall (layoutOf layout) standard (now (archive .entry)) lower upper (now (keys .entry)) (now (values .entry)) ⌝ }
     ensures keys { λ r. ⌜ now (keys .exit)
-        ≡ rangeKeys (layoutAt width) standard (now (archive .entry)) lower upper (now (keys .entry)) (now (values .entry)) ⌝ }
+        ≡ rangeKeys (layoutOf layout) standard (now (archive .entry)) lower upper (now (keys .entry)) (now (values .entry)) ⌝ }
     ensures values { λ r. ⌜ now (values .exit)
-        ≡ rangeValues (layoutAt width) standard (now (archive .entry)) lower upper (now (keys .entry)) (now (values .entry)) ⌝ }
+        ≡ rangeValues (layoutOf layout) standard (now (archive .entry)) lower upper (now (keys .entry)) (now (values .entry)) ⌝ }
 {
-    let entries = Common::ENTRIES;
-    readers::range(
-        archive,
-        Layout { width, entries },
-        lower,
-        upper,
-        keys,
-        values,
-    )
+    readers::range(archive, layout, lower, upper, keys, values)
 }
 
 // The range of a column query, for one eye of one examination, by the packing of the archive's keys. Of keys that store x plus 128, the entries with x
 // from a to b, and none if a is above b. Of keys in two's complement the same where a and b are both from 0 on or both below 0; where a is below 0 and
 // b is not, none; where b is below 0 and a is not, those with x from a on and those with x up to b.
 pub fn column(
-    width: Width,
+    layout: Layout,
     archive: &[u8],
     packing: Packing,
     examination: u32,
@@ -123,20 +109,20 @@ pub fn column(
     values: &mut [u64],
 ) -> RangeAnswer
     ensures answer { λ r. ⌜ rangeOf r
-        ≡ columnCall (layoutAt width) standard (now (archive .entry)) packing examination eye a b (now (keys .entry)) (now (values .entry)) ⌝ }
+        ≡ columnCall (layoutOf layout) standard (now (archive .entry)) packing examination eye a b (now (keys .entry)) (now (values .entry)) ⌝ }
     ensures keys { λ r. ⌜ now (keys .exit)
-        ≡ columnKeys (layoutAt width) standard (now (archive .entry)) packing examination eye a b (now (keys .entry)) (now (values .entry)) ⌝ }
+        ≡ columnKeys (layoutOf layout) standard (now (archive .entry)) packing examination eye a b (now (keys .entry)) (now (values .entry)) ⌝ }
     ensures values { λ r. ⌜ now (values .exit)
-        ≡ columnValues (layoutAt width) standard (now (archive .entry)) packing examination eye a b (now (keys .entry)) (now (values .entry)) ⌝ }
+        ≡ columnValues (layoutOf layout) standard (now (archive .entry)) packing examination eye a b (now (keys .entry)) (now (values .entry)) ⌝ }
 {
     match column_bounds(packing, examination, eye, a, b) {
         Columns::Bounds(c) => {
             let lower = c.lower;
             let upper = c.upper;
-            range(width, archive, lower, upper, keys, values)
+            range(layout, archive, lower, upper, keys, values)
         }
         Columns::Refused(why) => {
-            if let CheckAnswer::Refused(first) = certify(width, archive) {
+            if let CheckAnswer::Refused(first) = certify(layout, archive) {
                 return RangeAnswer::Refused(first);
             }
             RangeAnswer::Refused(why)
@@ -146,27 +132,22 @@ pub fn column(
 
 // Writes the given entries as an archive behind the first `header` bytes of the output, which stay, and answers the archive's end.
 pub fn build(
-    width: Width,
+    layout: Layout,
     out: &mut [u8],
     header: usize,
     keys: &[u64],
     values: &[u64],
 ) -> BuildAnswer
-    ensures answer { λ r. ⌜ builtOf r ≡ build (layoutAt width) (now (keys .entry)) (now (values .entry)) header (length (now (out .entry))) ⌝ }
-    ensures bytes { λ r. ⌜ now (out .exit) ≡ outAfter (layoutAt width) (now (keys .entry)) (now (values .entry)) header (now (out .entry)) ⌝ }
+    ensures answer { λ r. ⌜ builtOf r ≡ build (layoutOf layout) (now (keys .entry)) (now (values .entry)) header (length (now (out .entry))) ⌝ }
+    ensures bytes { λ r. ⌜ now (out .exit) ≡ outAfter (layoutOf layout) (now (keys .entry)) (now (values .entry)) header (now (out .entry)) ⌝ }
 {
-    let entries = Common::ENTRIES;
-    builder::build::build(out, Layout { width, entries }, header, keys, values)
+    builder::build::build(out, layout, header, keys, values)
 }
 
 // How long the output has to be for so many entries behind a header: where `build` will end.
-pub fn build_length(width: Width, entries: usize, header: usize) -> BuildAnswer
-    ensures { λ r. ⌜ builtOf r ≡ buildLength (layoutAt width) entries header ⌝ }
+pub fn build_length(layout: Layout, entries: usize, header: usize) -> BuildAnswer
+    ensures { λ r. ⌜ builtOf r ≡ buildLength (layoutOf layout) entries header ⌝ }
 {
-    let layout = Layout {
-        width,
-        entries: Common::ENTRIES,
-    };
     builder::build::build_length(layout, entries, header)
 }
 

@@ -21,6 +21,8 @@ module _ (L : Layout) (M : Limits) (s : List ℕ) where
 
   -- What check accepts.
   pub record Archive : Type 0 where
+    pub least : 3 ≤ L .entries
+    pub most : L .entries ≤ 15
     pub small : length s ≤ M .longest
     pub room : recordSize L ≤ length s
     pub rooted : 0 < recorded L s → Rooted

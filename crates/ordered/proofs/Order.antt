@@ -10,7 +10,7 @@ use lib.Dec.{ltb, eqb}
 use lib.ListN.{getD, length}
 use borrow.Author.Tests.{le-leb, lt-ltb, ltb-true, ltb-false, eq-eqb, ne-eqb, eqb-true}
 use Rattle.format.specs.declared.Entry.{Entry}
-use Rattle.format.specs.Layout.{Layout, Limits, nested, pointer, headSize, leafSize, innerSize, recordSize, recordAlign}
+use Rattle.format.specs.Layout.{Layout, entriesInRange, Limits, nested, pointer, headSize, leafSize, innerSize, recordSize, recordAlign}
 use Rattle.format.specs.Refusal.{gives}
 use Rattle.format.specs.Bytes.{leAt}
 use Rattle.format.specs.RelPtr.{at, absent}
@@ -236,9 +236,9 @@ module _ (L : Layout) (s : List ℕ) where
         go zero e h o = absurd (omega arith)
         go (suc m) e h o = rw (e, w .is, eq-eqb n (suc m) o)
 
-    pub certified : length s ≤ M .longest → recordSize L ≤ length s → root L s % recordAlign L ≡ 0 → 1 < M .depth → Root L s (nested M) (root L s) n
+    pub certified : entriesInRange L ≡ true → length s ≤ M .longest → recordSize L ≤ length s → root L s % recordAlign L ≡ 0 → 1 < M .depth → Root L s (nested M) (root L s) n
         → (last : ℕ) → Leads 0 0 (listChild L s (listAt L s (nested M)) (root L s)) last → anyChild L s (hollowAt L s (nested M)) (root L s) ≡ false
         → counted (certify L M s) ≡ gives n
     unfolding certify checkArchive
-    certified small room even deep w last keys solid =
-        rw (le-leb _ _ small, le-leb _ _ room, eq-eqb _ _ even, lt-ltb _ _ deep, root-accepts w, list-solid solid, list-ascends last keys)
+    certified range small room even deep w last keys solid =
+        rw (range, le-leb _ _ small, le-leb _ _ room, eq-eqb _ _ even, lt-ltb _ _ deep, root-accepts w, list-solid solid, list-ascends last keys)

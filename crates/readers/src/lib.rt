@@ -62,7 +62,6 @@ fn root_of(archive: &[u8], layout: Layout) -> Position
 
 // The check, and then what certification asks beyond it.
 fn certify_checked(archive: &[u8], layout: Layout) -> CheckAnswer
-    requires { ⌜ layout .entries ≤ 15 ⌝ }
     ensures { λ r. ⌜ checkOf r ≡ counted (certify (layoutOf layout) standard (now (archive .entry))) ⌝ }
 {
     match validation::check::check(archive, layout) {
@@ -83,9 +82,8 @@ fn certify_checked(archive: &[u8], layout: Layout) -> CheckAnswer
     }
 }
 
-// The recorded count, or the first fault of 1 to 9. Where the quick way knows the count, nothing is left to ask.
+// The recorded count, or 24, or the first fault of 1 to 9. Where the quick way knows the count, nothing is left to ask.
 pub fn certify(archive: &[u8], layout: Layout) -> CheckAnswer
-    requires { ⌜ layout .entries ≤ 15 ⌝ }
     ensures { λ r. ⌜ checkOf r ≡ counted (certify (layoutOf layout) standard (now (archive .entry))) ⌝ }
 {
     let quick = quick_certify(archive, layout);
@@ -97,7 +95,6 @@ pub fn certify(archive: &[u8], layout: Layout) -> CheckAnswer
 
 // The entry that rkyv's search finds.
 pub fn lookup(archive: &[u8], layout: Layout, key: u64) -> LookupAnswer
-    requires { ⌜ layout .entries ≤ 15 ⌝ }
     ensures { λ r. ⌜ lookupOf r ≡ lookupCall (layoutOf layout) standard (now (archive .entry)) key ⌝ }
 {
     match validation::check::check(archive, layout) {
@@ -117,7 +114,6 @@ pub fn lookup(archive: &[u8], layout: Layout, key: u64) -> LookupAnswer
 
 // The eight bytes of the value that a lookup finds, as a part of the archive, or the empty part at its start.
 pub fn lookup_bytes<'a>(archive: &'a [u8], layout: Layout, key: u64) -> &'a [u8]
-    requires { ⌜ layout .entries ≤ 15 ⌝ }
     ensures place { λ r. ⌜ ptr r ≡ placeCall (layoutOf layout) standard (now (archive .entry)) (ptr (archive .entry)) key ⌝ }
     ensures bytes { λ r. ⌜ now r ≡ bytesCall (layoutOf layout) standard (now (archive .entry)) key ⌝ }
 {
@@ -132,7 +128,6 @@ pub fn lookup_bytes<'a>(archive: &'a [u8], layout: Layout, key: u64) -> &'a [u8]
 
 // Writes keys and values in the order of `visit` until the shorter list is full.
 pub fn walk(archive: &[u8], layout: Layout, keys: &mut [u64], values: &mut [u64]) -> WalkAnswer
-    requires { ⌜ layout .entries ≤ 15 ⌝ }
     ensures answer { λ r. ⌜ walkOf r ≡ walkCall (layoutOf layout) standard (now (archive .entry)) (now (keys .entry)) (now (values .entry)) ⌝ }
     ensures keys { λ r. ⌜ now (keys .exit)
         ≡ walkKeys (layoutOf layout) standard (now (archive .entry)) (now (keys .entry)) (now (values .entry)) ⌝ }
@@ -154,7 +149,6 @@ pub fn walk(archive: &[u8], layout: Layout, keys: &mut [u64], values: &mut [u64]
 
 // Looks up keys after one check and stores each value that is found at the place of its key.
 pub fn look_up_many(archive: &[u8], layout: Layout, keys: &[u64], values: &mut [u64]) -> ManyAnswer
-    requires { ⌜ layout .entries ≤ 15 ⌝ }
     ensures answer { λ r. ⌜ manyOf r ≡ manyCall (layoutOf layout) standard (now (archive .entry)) (now (keys .entry)) (now (values .entry)) ⌝ }
     ensures values { λ r. ⌜ now (values .exit)
         ≡ manyValues (layoutOf layout) standard (now (archive .entry)) (now (keys .entry)) (now (values .entry)) ⌝ }
@@ -180,7 +174,6 @@ pub fn range(
     keys: &mut [u64],
     values: &mut [u64],
 ) -> RangeAnswer
-    requires { ⌜ layout .entries ≤ 15 ⌝ }
     ensures answer { λ r. ⌜ rangeOf r
         ≡ rangeCall (layoutOf layout) standard (now (archive .entry)) lower upper (now (keys .entry)) (now (values .entry)) ⌝ }
     ensures keys { λ r. ⌜ now (keys .exit)

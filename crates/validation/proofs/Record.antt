@@ -1,12 +1,13 @@
 -- The definitions of the check of the record and of the whole archive, case by case, by the answers of the code's tests. Assumes nothing.
 use mathlib.Core.Path.{_≡_, refl, sym, _∙_, ap}
+use mathlib.Core.Bool.{true, false}
 use mathlib.Core.List.{List}
 use Prim.Native.Nat.{ℕ, zero, suc, _+_, _-_, _<_, _≤_}
 use native.Mathlib.Omega.{arith}
 use lib.ListN.{length}
 use lib.Dec.{eqb}
 use borrow.Author.Tests.{le-leb, lt-leb, eq-eqb, ne-eqb}
-use Rattle.format.specs.Layout.{Layout, recordSize, recordAlign, pointer, Limits, nested}
+use Rattle.format.specs.Layout.{Layout, entriesInRange, recordSize, recordAlign, pointer, Limits, nested}
 use Rattle.format.specs.Refusal.{gives, refuses, checkOf}
 use Rattle.format.specs.Bytes.{leAt}
 use Rattle.format.specs.Check.{accepted, bind, guard, counted, checkNode, root, recorded, checkRoot, checkArchive}
@@ -61,35 +62,41 @@ module _ (L : Layout) (M : Limits) (s : List ℕ) where
 
   -- ---- the whole archive
 
-  pub archive-long : M .longest < length s → refuses 1 ≡ counted (checkArchive L M s)
+  pub archive-out : entriesInRange L ≡ false → refuses 24 ≡ counted (checkArchive L M s)
   unfolding checkArchive
-  archive-long h = rw (lt-leb _ _ h)
+  archive-out o = rw o
 
-  module _ (h : length s ≤ M .longest) where
-    pub archive-short : length s < recordSize L → refuses 2 ≡ counted (checkArchive L M s)
+  module _ (i : entriesInRange L ≡ true) where
+    pub archive-long : M .longest < length s → refuses 1 ≡ counted (checkArchive L M s)
     unfolding checkArchive
-    archive-short l = rw (le-leb _ _ h, lt-leb _ _ l)
+    archive-long h = rw (i, lt-leb _ _ h)
 
-    module _ (l : recordSize L ≤ length s) where
-      whole : checkArchive L M s
-          ≡ ptrOf (opened 0 (length s) (M .depth) (length s - recordSize L) (recordSize L) (recordAlign L)) (checkRoot L M s (recorded L s))
-      unfolding checkArchive root
-      whole =
-          let e : length s - recordSize L + recordSize L ≤ length s = omega arith in
-          rw (
-            opened-guards 0 (length s) (length s - recordSize L) (recordSize L) (recordAlign L) (M .depth),
-            placed-guards 0 (length s) (length s - recordSize L) (recordSize L) (recordAlign L),
-            le-leb _ _ h,
-            le-leb _ _ l,
-            le-leb 0 (length s - recordSize L) (omega arith),
-            le-leb _ _ e,
-          )
+    module _ (h : length s ≤ M .longest) where
+      pub archive-short : length s < recordSize L → refuses 2 ≡ counted (checkArchive L M s)
+      unfolding checkArchive
+      archive-short l = rw (i, le-leb _ _ h, lt-leb _ _ l)
 
-      -- o is the answer of the record's place.
-      module _ {o : PtrAnswer} (e : o ≡ opened 0 (length s) (M .depth) (length s - recordSize L) (recordSize L) (recordAlign L)) where
-        pub archive-refused : {r : Refusal} {a : NodeAnswer} {x : CheckAnswer} → o ≡ Refused r → a ≡ refusedPtr o → x ≡ refusedNode a
-            → checkOf x ≡ counted (checkArchive L M s)
-        archive-refused told handed back = rw (whole, ← e, told, back, handed, told)
+      module _ (l : recordSize L ≤ length s) where
+        whole : checkArchive L M s
+            ≡ ptrOf (opened 0 (length s) (M .depth) (length s - recordSize L) (recordSize L) (recordAlign L)) (checkRoot L M s (recorded L s))
+        unfolding checkArchive root
+        whole =
+            let e : length s - recordSize L + recordSize L ≤ length s = omega arith in
+            rw (
+              i,
+              opened-guards 0 (length s) (length s - recordSize L) (recordSize L) (recordAlign L) (M .depth),
+              placed-guards 0 (length s) (length s - recordSize L) (recordSize L) (recordAlign L),
+              le-leb _ _ h,
+              le-leb _ _ l,
+              le-leb 0 (length s - recordSize L) (omega arith),
+              le-leb _ _ e,
+            )
 
-        pub archive-opened : o ≡ Inside → counted (checkRoot L M s (recorded L s)) ≡ counted (checkArchive L M s)
-        archive-opened told = rw (whole, ← e, told)
+        -- o is the answer of the record's place.
+        module _ {o : PtrAnswer} (e : o ≡ opened 0 (length s) (M .depth) (length s - recordSize L) (recordSize L) (recordAlign L)) where
+          pub archive-refused : {r : Refusal} {a : NodeAnswer} {x : CheckAnswer} → o ≡ Refused r → a ≡ refusedPtr o → x ≡ refusedNode a
+              → checkOf x ≡ counted (checkArchive L M s)
+          archive-refused told handed back = rw (whole, ← e, told, back, handed, told)
+
+          pub archive-opened : o ≡ Inside → counted (checkRoot L M s (recorded L s)) ≡ counted (checkArchive L M s)
+          archive-opened told = rw (whole, ← e, told)

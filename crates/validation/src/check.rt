@@ -67,11 +67,13 @@ fn verify(
     CheckAnswer::Accepted(count)
 }
 
-// The recorded count, or the first refusal of 1 to 7.
+// The recorded count, or 24, or the first refusal of 1 to 7.
 pub fn check(archive: &[u8], layout: Layout) -> CheckAnswer
-    requires { ⌜ layout .entries ≤ 15 ⌝ }
     ensures { λ r. ⌜ checkOf r ≡ counted (checkArchive (layoutOf layout) standard (now (archive .entry))) ⌝ }
 {
+    if !layout.in_range() {
+        return CheckAnswer::Refused(Refusal::EntriesOutOfRange);
+    }
     let length = archive.len();
     if length > Limits::LONGEST {
         return CheckAnswer::Refused(Refusal::ArchiveTooLong);

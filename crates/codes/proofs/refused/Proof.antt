@@ -4,12 +4,12 @@ use mathlib.Core.Path.{_∙_, ap}
 use native.Mathlib.Omega.{arith}
 use borrow.Author.Needs.{needs, sfits-of}
 use lib.IntN.{pos, negℤ}
-use Rattle.codes.proofs.RefusalNumbers.{number-listed, minus-fits, minus-is}
+use Rattle.codes.proofs.RefusalNumbers.{number-listed, listed-some, minus-fits, minus-is}
 use Rattle.codes.proofs.refused.Statement.{statement}
 use Rattle.codes.proofs.refused.Tie as tie
 
 small : (c : tie.After-number) → c .number .result < 2 ^ 63
-small c = omega (arith, number-listed (c .before .args .why) .1, c .number .ensures)
+small c = omega (arith, listed-some (number-listed (c .before .args .why)) .1, c .number .ensures)
 
 sub-result : tie.Need-sub-result
 sub-result c = minus-fits _ (small c)

@@ -55,7 +55,8 @@ returns-9 c =
     let count : tie.After-u32-at2 = search in
     let aligned : tie.Else3 = search in
     λ h. let some : 0 < asked .node-keys .result .entries = omega arith in
-    certified layout32 _ standard (sym (count .u32-at2 .ensures)) h (to asked some) (omega arith) (omega arith) (aligned .if3 .left) (omega arith)
+    certified layout32 _ standard (sym (count .u32-at2 .ensures)) h (to asked some) refl (omega arith) (omega arith) (aligned .if3 .left)
+    (omega arith)
     (subst (λ (m : ℕ). Root layout32 (s asked some) 14 (length (s asked some) - 8) m) (c .if8 .left) (node asked some)) _
     (keys asked some .keys) (keys asked some .solid)
 

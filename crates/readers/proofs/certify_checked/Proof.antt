@@ -1,7 +1,7 @@
 -- `readers::certify_checked` meets its contract. Assumes nothing.
 use mathlib.Core.Path.{sym}
 use Rattle.format.specs.Layout.{standard}
-use Rattle.format.specs.Laws.Calls.Accepted.{node, certify-refuses, certify-none, certify-8, certify-9, certify-all}
+use Rattle.format.specs.Laws.Calls.Accepted.{entries-few, node, certify-refuses, certify-none, certify-8, certify-9, certify-all}
 use borrow.Author.Needs.{needs}
 use Rattle.readers.proofs.Told.{accepted-told, refused-told, root-requires}
 use Rattle.readers.proofs.certify_checked.Statement.{statement}
@@ -16,7 +16,8 @@ root-of-requires c κs = root-requires _ _ _ (accepted-told (c .before .before .
 certify-requires : tie.Need-certify-requires
 certify-requires c κs =
     let told : tie.After-count = search in
-    (search needs, node _ standard _ _ (accepted-told (told .count .given .1) (search)) (search) _ (c .root-of .ensures))
+    let accepted = accepted-told (told .count .given .1) (told .before .before .check .ensures) in
+    (entries-few _ standard _ _ accepted, node _ standard _ _ accepted (search) _ (c .root-of .ensures))
 
 returns-2 : tie.Need-returns-2
 returns-2 c =

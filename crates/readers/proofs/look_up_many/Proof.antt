@@ -2,7 +2,7 @@
 use mathlib.Core.Path.{sym}
 use borrow.Author.Needs.{needs}
 use Rattle.format.specs.Layout.{standard}
-use Rattle.format.specs.Laws.Calls.Accepted.{node}
+use Rattle.format.specs.Laws.Calls.Accepted.{entries-few, node}
 use Rattle.lookups.proofs.ManyLookups.{many-refuses, many-values-refuses, many-none, many-values-none, many-gives, many-values-gives}
 use Rattle.readers.proofs.Told.{accepted-told, refused-told, root-requires}
 use Rattle.readers.proofs.look_up_many.Statement.{statement}
@@ -20,7 +20,8 @@ root-of-requires c κs = root-requires _ _ _ (accepted-told (c .before .before .
 look-up-all-requires : tie.Need-look-up-all-requires
 look-up-all-requires c κs =
     let told : tie.After-count = search in
-    (search needs, node _ standard _ _ (accepted-told (told .count .given .1) (search)) (search) _ (c .before .root-of .ensures))
+    let accepted = accepted-told (told .count .given .1) (told .before .before .check .ensures) in
+    (entries-few _ standard _ _ accepted, node _ standard _ _ accepted (search) _ (c .before .root-of .ensures))
 
 returns-2 : tie.Need-returns-2
 returns-2 c =

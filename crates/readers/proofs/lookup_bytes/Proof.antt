@@ -2,7 +2,7 @@
 use mathlib.Core.Path.{refl, sym, _∙_}
 use native.Mathlib.Omega.{arith}
 use Rattle.format.specs.Layout.{standard}
-use Rattle.format.specs.Laws.Calls.Accepted.{node, bytes-refuses, bytes-none, bytes-gives, place-refuses, place-none, place-gives}
+use Rattle.format.specs.Laws.Calls.Accepted.{entries-few, node, bytes-refuses, bytes-none, bytes-gives, place-refuses, place-none, place-gives}
 use Rattle.lookups.proofs.Finds.{same-place}
 use borrow.Author.Needs.{needs}
 use Rattle.readers.proofs.Told.{accepted-told, refused-told, root-requires}
@@ -29,7 +29,8 @@ root-of-requires c κs = root-requires _ _ _ (accepted-told (c .before .before .
 get-bytes-requires : tie.Need-get-bytes-requires
 get-bytes-requires c κs =
     let told : tie.After-count = search in
-    (search needs, node _ standard _ _ (accepted-told (told .count .given .1) (search)) (search) _ (c .root-of .ensures))
+    let accepted = accepted-told (told .count .given .1) (told .before .before .check .ensures) in
+    (entries-few _ standard _ _ accepted, node _ standard _ _ accepted (search) _ (c .root-of .ensures))
 
 returns-3 : tie.Need-returns-3
 returns-3 c =

@@ -1,7 +1,7 @@
 -- `readers::range` meets its contract. Assumes nothing.
 use mathlib.Core.Path.{sym}
 use Rattle.format.specs.Layout.{standard}
-use Rattle.format.specs.Laws.Calls.Accepted.{node}
+use Rattle.format.specs.Laws.Calls.Accepted.{entries-few, node}
 use Rattle.format.specs.Laws.Calls.Certified.{certified-accepts, ascending-root, range-refuses, range-keys-refuses, range-values-refuses}
 use Rattle.format.specs.Laws.Calls.Certified.{range-none, range-keys-none, range-values-none, range-gives, range-keys-gives, range-values-gives}
 use borrow.Author.Needs.{needs}
@@ -24,10 +24,11 @@ range-with-requires : tie.Need-range-with-requires
 range-with-requires c κs =
     let told : tie.After-count = search in
     let root : tie.After-root-of = search in
-    let certified = accepted-told (told .count .given .1) (told .before .before .certify .ensures) in (
-      search needs,
+    let certified = accepted-told (told .count .given .1) (told .before .before .certify .ensures) in
+    let accepted = certified-accepts _ standard _ _ certified in (
+      entries-few _ standard _ _ accepted,
       (
-        node _ standard _ _ (certified-accepts _ standard _ _ certified) (search) _ (root .root-of .ensures),
+        node _ standard _ _ accepted (search) _ (root .root-of .ensures),
         ascending-root _ standard _ _ certified (search) _ (root .root-of .ensures),
       ),
     )

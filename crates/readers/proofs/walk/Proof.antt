@@ -1,7 +1,7 @@
 -- `readers::walk` meets its contract. Assumes nothing.
 use mathlib.Core.Path.{sym}
 use Rattle.format.specs.Layout.{standard}
-use Rattle.format.specs.Laws.Calls.Accepted.{node, walk-refuses, walk-keys-refuses, walk-values-refuses}
+use Rattle.format.specs.Laws.Calls.Accepted.{entries-few, node, walk-refuses, walk-keys-refuses, walk-values-refuses}
 use Rattle.format.specs.Laws.Calls.Accepted.{walk-none, walk-keys-none, walk-values-none, walk-gives, walk-keys-gives, walk-values-gives}
 use borrow.Author.Needs.{needs}
 use Rattle.readers.proofs.Told.{accepted-told, refused-told, root-requires}
@@ -23,7 +23,8 @@ visit-requires : tie.Need-visit-requires
 visit-requires c κs =
     let told : tie.After-count = search in
     let root : tie.After-root-of = search in
-    (search needs, node _ standard _ _ (accepted-told (told .count .given .1) (search)) (search) _ (root .root-of .ensures))
+    let accepted = accepted-told (told .count .given .1) (told .before .before .check .ensures) in
+    (entries-few _ standard _ _ accepted, node _ standard _ _ accepted (search) _ (root .root-of .ensures))
 
 returns-2 : tie.Need-returns-2
 returns-2 c =

@@ -3,8 +3,8 @@ use mathlib.Core.Path.{_≡_, sym, _∙_}
 use mathlib.Core.Bool.{true}
 use denote.Ref.{now}
 use borrow.Author.Tests.{not-true, not-false}
-use Rattle.format.specs.Layout.{Layout, layoutOf}
-use Rattle.format.specs.Build.{rises, entriesInRange}
+use Rattle.format.specs.Layout.{Layout, layoutOf, entriesInRange}
+use Rattle.format.specs.Build.{rises}
 use Rattle.builder.proofs.Refusals.{named, refuse-24, refuse-10, refuse-11, refuse-12, refuse-13, refuse-14, refuse-16, accepted}
 use borrow.Author.Needs.{needs}
 use Rattle.builder.proofs.build.build.Statement.{statement}

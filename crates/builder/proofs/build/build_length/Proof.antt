@@ -2,8 +2,7 @@
 use mathlib.Core.Path.{_≡_, sym, _∙_}
 use mathlib.Core.Bool.{true}
 use borrow.Author.Tests.{not-true, not-false}
-use Rattle.format.specs.Layout.{layoutOf}
-use Rattle.format.specs.Build.{entriesInRange}
+use Rattle.format.specs.Layout.{layoutOf, entriesInRange}
 use Rattle.builder.proofs.Refusals.{named, length-24, length-11, length-13, length-16, length-given}
 use borrow.Author.Needs.{needs}
 use Rattle.builder.proofs.build.build_length.Statement.{statement}

@@ -1,11 +1,9 @@
 -- `exports::key::fieldmap_pack` meets its contract. Assumes nothing.
 use mir.Facts.{toZ-ofZ}
 use mathlib.Core.Path.{refl, _∙_, sym, ap}
-use lib.Dec.{lit≤}
 use borrow.Author.Needs.{needs}
 use Rattle.perimetry.specs.Answers.{packedOf}
 use Rattle.codes.proofs.Coded.{part-given, part-refused}
-use Rattle.fieldmap.specs.Refusals.{pack-by}
 use Rattle.exports.proofs.key.fieldmap_pack.Statement.{statement}
 use Rattle.exports.proofs.key.fieldmap_pack.Tie as tie
 
@@ -16,7 +14,7 @@ returns c =
     let by : tie.After-packing = search in
     let e = sym (told .before .before .pack .ensures) ∙ ap packedOf (told .why .given .1) in
     rw (sym (by .packing .ensures), sym (toZ-ofZ (start .fits .x)), sym (toZ-ofZ (start .fits .y)))
-    (part-refused _ (lit≤ tt) (pack-by _ _ _ _ _ _) (told .why .given .0 .0) e (c .refused .ok) (c .refused .ensures))
+    (part-refused _ (told .why .given .0 .0) e (c .refused .ok) (c .refused .ensures))
 
 returns-2 : tie.Need-returns-2
 returns-2 c =

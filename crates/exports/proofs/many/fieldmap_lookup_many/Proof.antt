@@ -3,13 +3,11 @@ use mathlib.Core.Path.{_∙_, sym, ap}
 use Prim.Native.Nat.{ℕ, _*_, _<_, _^_}
 use native.Mathlib.Omega.{arith}
 use lib.ListN.{length}
-use lib.Dec.{lit≤}
 use borrow.Author.Needs.{needs}
 use Rattle.format.specs.Layout.{standard}
 use Rattle.codes.proofs.Coded.{answers-given, answers-refused, returned}
 use Rattle.lookups.proofs.ManyLookups.{many-most}
 use Rattle.readers.specs.Answers.{manyOf}
-use Rattle.exports.proofs.Numbers.{many-by}
 use Rattle.exports.proofs.many.fieldmap_lookup_many.Statement.{statement}
 use Rattle.exports.proofs.many.fieldmap_lookup_many.Tie as tie
 
@@ -24,21 +22,21 @@ given-requires c κs =
 
 returns : tie.Need-returns
 returns c =
-    let w : tie.After-width = search in
+    let named : tie.After-layout = search in
     let call : tie.After-look-up-many = search in
     let told : tie.After-why = search in
     let (answer, lists) = call .look-up-many .ensures in
-    rw (sym (w .width .ensures))
-    (answers-refused (λ (n : ℕ). n) (lit≤ tt) (many-by _ standard _ _ _) (told .why .given .0 .0) (sym answer ∙ ap manyOf (told .why .given .1))
+    rw (sym (named .layout .ensures))
+    (answers-refused (λ (n : ℕ). n) (told .why .given .0 .0) (sym answer ∙ ap manyOf (told .why .given .1))
     (c .refused .ok) (c .refused .ensures) lists)
 
 returns-2 : tie.Need-returns-2
 returns-2 c =
-    let w : tie.After-width = search in
+    let named : tie.After-layout = search in
     let call : tie.After-look-up-many = search in
     let told : tie.After-n = search in
     let (answer, lists) = call .look-up-many .ensures in
-    rw (sym (w .width .ensures))
+    rw (sym (named .layout .ensures))
     (answers-given (λ (n : ℕ). n) (sym answer ∙ ap manyOf (told .n .given .1)) (returned (c .given .ok) (c .given .ensures)) lists)
 
 pub fieldmap-lookup-many-spec : {M : Type 1} → statement M

@@ -2,11 +2,9 @@
 use mir.Syntax.{w32}
 use mir.Facts.{toZ-ofZ}
 use mathlib.Core.Path.{_∙_, sym, ap}
-use lib.Dec.{lit≤}
 use borrow.Author.Needs.{needs, sfits-of}
 use Rattle.offsets.specs.Answers.{storedOf}
 use Rattle.codes.proofs.Coded.{part-given, part-refused}
-use Rattle.fieldmap.specs.Refusals.{absent-by}
 use Rattle.exports.proofs.parts.fieldmap_absent_offset.Statement.{statement}
 use Rattle.exports.proofs.parts.fieldmap_absent_offset.Tie as tie
 
@@ -15,7 +13,7 @@ returns c =
     let start : tie.Start = search in
     let told : tie.After-why = search in
     let e = sym (told .before .before .absent-offset .ensures) ∙ ap storedOf (told .why .given .1) in
-    part-refused _ (lit≤ tt) (absent-by 31 _ (lit≤ tt) (start .fits .at .fits)) (told .why .given .0 .0) e (c .refused .ok) (c .refused .ensures)
+    part-refused _ (told .why .given .0 .0) e (c .refused .ok) (c .refused .ensures)
 
 returns-2 : tie.Need-returns-2
 returns-2 c =

@@ -1,12 +1,10 @@
 -- `exports::parts::fieldmap_align` meets its contract. Assumes nothing.
 use mathlib.Core.Path.{refl, _∙_, sym, ap}
-use lib.Dec.{lit≤}
 use borrow.Author.Needs.{needs}
 use Rattle.format.specs.Align.{Step}
 use Rattle.codes.specs.Answers.{stepNext, stepZeros}
 use Rattle.offsets.specs.Answers.{alignedOf}
 use Rattle.codes.proofs.Coded.{answers-given, answers-refused, store-given, store-refused}
-use Rattle.fieldmap.specs.Refusals.{align-by}
 use Rattle.exports.proofs.parts.fieldmap_align.Statement.{statement}
 use Rattle.exports.proofs.parts.fieldmap_align.Tie as tie
 
@@ -14,7 +12,7 @@ returns : tie.Need-returns
 returns c =
     let told : tie.After-why = search in
     let e = sym (told .before .before .align .ensures) ∙ ap alignedOf (told .why .given .1) in
-    answers-refused (λ (s : Step). 0) (lit≤ tt) (align-by _ _) (told .why .given .0 .0) e (c .refused .ok) (c .refused .ensures)
+    answers-refused (λ (s : Step). 0) (told .why .given .0 .0) e (c .refused .ok) (c .refused .ensures)
     (store-refused stepNext _ e, store-refused stepZeros _ e)
 
 returns-2 : tie.Need-returns-2

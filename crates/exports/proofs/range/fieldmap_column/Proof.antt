@@ -2,14 +2,12 @@
 use mir.Facts.{toZ-ofZ}
 use mathlib.Core.Path.{_∙_, sym, ap}
 use native.Mathlib.Omega.{arith}
-use lib.Dec.{lit≤}
 use borrow.Author.Needs.{needs}
 use Rattle.format.specs.Layout.{standard}
 use Rattle.exports.proofs.Numbers.{column-most}
 use Rattle.readers.specs.Answers.{rangeOf}
 use Rattle.codes.specs.Answers.{rangeWritten, rangeMatching}
 use Rattle.codes.proofs.Coded.{answers-given, answers-refused, returned, store-given, store-refused}
-use Rattle.fieldmap.specs.Refusals.{column-by}
 use Rattle.exports.proofs.range.fieldmap_column.Statement.{statement}
 use Rattle.exports.proofs.range.fieldmap_column.Tie as tie
 
@@ -23,26 +21,27 @@ given-requires c κs =
 
 returns : tie.Need-returns
 returns c =
-    let w : tie.After-width = search in
+    let told : tie.After-why = search in
+    let named : tie.After-layout = search in
     let start : tie.Start = search in
     let by : tie.After-packing = search in
     let call : tie.After-column = search in
     let (answer, lists) = call .column .ensures in
-    let e = sym answer ∙ ap rangeOf (c .before .before .why .given .1) in
-    rw (sym (w .width .ensures), sym (by .packing .ensures), sym (toZ-ofZ (start .fits .a)), sym (toZ-ofZ (start .fits .b)))
-    (answers-refused rangeWritten (lit≤ tt) (column-by _ standard _ _ _ _ _ _ _ _) (c .before .before .why .given .0 .0) e
+    let e = sym answer ∙ ap rangeOf (told .why .given .1) in
+    rw (sym (named .layout .ensures), sym (by .packing .ensures), sym (toZ-ofZ (start .fits .a)), sym (toZ-ofZ (start .fits .b)))
+    (answers-refused rangeWritten (told .why .given .0 .0) e
     (c .refused .ok) (c .refused .ensures) (lists .0, (lists .1, store-refused rangeMatching _ e)))
 
 returns-2 : tie.Need-returns-2
 returns-2 c =
-    let w : tie.After-width = search in
+    let named : tie.After-layout = search in
     let told : tie.After-written = search in
     let start : tie.Start = search in
     let by : tie.After-packing = search in
     let call : tie.After-column = search in
     let (answer, lists) = call .column .ensures in
     let e = sym answer ∙ ap rangeOf (told .written .given .1) in
-    rw (sym (w .width .ensures), sym (by .packing .ensures), sym (toZ-ofZ (start .fits .a)), sym (toZ-ofZ (start .fits .b)))
+    rw (sym (named .layout .ensures), sym (by .packing .ensures), sym (toZ-ofZ (start .fits .a)), sym (toZ-ofZ (start .fits .b)))
     (answers-given rangeWritten e (returned (c .given .ok) (c .given .ensures)) (lists .0, (lists .1, store-given rangeMatching _ e)))
 
 pub fieldmap-column-spec : {M : Type 1} → statement M

@@ -1,14 +1,12 @@
 -- `exports::read::fieldmap_walk` meets its contract. Assumes nothing.
 use mathlib.Core.Path.{_∙_, sym, ap}
 use native.Mathlib.Omega.{arith}
-use lib.Dec.{lit≤}
 use borrow.Author.Needs.{needs}
 use Rattle.format.specs.Layout.{standard}
 use Rattle.exports.proofs.Numbers.{walk-most}
 use Rattle.readers.specs.Answers.{walkOf}
 use Rattle.codes.specs.Answers.{walkWritten, walkCount}
 use Rattle.codes.proofs.Coded.{answers-given, answers-refused, returned, store-given, store-refused}
-use Rattle.fieldmap.specs.Refusals.{walk-by}
 use Rattle.exports.proofs.read.fieldmap_walk.Statement.{statement}
 use Rattle.exports.proofs.read.fieldmap_walk.Tie as tie
 
@@ -22,22 +20,22 @@ given-requires c κs =
 
 returns : tie.Need-returns
 returns c =
-    let w : tie.After-width = search in
+    let named : tie.After-layout = search in
     let call : tie.After-walk = search in
     let (answer, lists) = call .walk .ensures in
     let e = sym answer ∙ ap walkOf (c .before .before .why .given .1) in
-    rw (sym (w .width .ensures))
-    (answers-refused walkWritten (lit≤ tt) (walk-by _ standard _ _ _) (c .before .before .why .given .0 .0) e (c .refused .ok) (c .refused .ensures)
+    rw (sym (named .layout .ensures))
+    (answers-refused walkWritten (c .before .before .why .given .0 .0) e (c .refused .ok) (c .refused .ensures)
     (lists .0, (lists .1, store-refused walkCount _ e)))
 
 returns-2 : tie.Need-returns-2
 returns-2 c =
-    let w : tie.After-width = search in
+    let named : tie.After-layout = search in
     let told : tie.After-written = search in
     let call : tie.After-walk = search in
     let (answer, lists) = call .walk .ensures in
     let e = sym answer ∙ ap walkOf (told .written .given .1) in
-    rw (sym (w .width .ensures))
+    rw (sym (named .layout .ensures))
     (answers-given walkWritten e (returned (c .given .ok) (c .given .ensures)) (lists .0, (lists .1, store-given walkCount _ e)))
 
 pub fieldmap-walk-spec : {M : Type 1} → statement M

@@ -2,13 +2,11 @@
 use Prim.Native.Nat.{ℕ}
 use mathlib.Core.Path.{_∙_, sym, ap}
 use native.Mathlib.Omega.{arith}
-use lib.Dec.{lit≤}
 use borrow.Author.Needs.{needs}
 use Rattle.format.specs.Layout.{standard}
 use Rattle.format.specs.Laws.Build.Lengths.{build-most}
 use Rattle.builder.specs.Answers.{builtOf}
 use Rattle.codes.proofs.Coded.{answers-given, answers-refused, returned}
-use Rattle.fieldmap.specs.Refusals.{build-up-to}
 use Rattle.exports.proofs.write.fieldmap_build.Statement.{statement}
 use Rattle.exports.proofs.write.fieldmap_build.Tie as tie
 
@@ -22,22 +20,22 @@ given-requires c κs =
 
 returns : tie.Need-returns
 returns c =
-    let w : tie.After-width = search in
+    let named : tie.After-layout = search in
     let call : tie.After-build = search in
     let told : tie.After-end = search in
     let (answer, output) = call .build .ensures in
     let e = sym answer ∙ ap builtOf (told .end .given .1) in
-    rw (sym (w .width .ensures))
+    rw (sym (named .layout .ensures))
     (answers-given (λ (n : ℕ). n) e (returned (c .given .ok) (c .given .ensures)) output)
 
 returns-2 : tie.Need-returns-2
 returns-2 c =
-    let w : tie.After-width = search in
+    let named : tie.After-layout = search in
     let call : tie.After-build = search in
     let (answer, output) = call .build .ensures in
     let e = sym answer ∙ ap builtOf (c .before .before .why .given .1) in
-    rw (sym (w .width .ensures))
-    (answers-refused (λ (n : ℕ). n) (lit≤ tt) (build-up-to _ (lit≤ tt) (lit≤ tt) _ _ _ _)
+    rw (sym (named .layout .ensures))
+    (answers-refused (λ (n : ℕ). n)
     (c .before .before .why .given .0 .0) e (c .refused .ok) (c .refused .ensures) output)
 
 pub fieldmap-build-spec : {M : Type 1} → statement M

@@ -2,13 +2,11 @@
 use Prim.Native.Nat.{ℕ}
 use mathlib.Core.Path.{_∙_, sym, ap}
 use native.Mathlib.Omega.{arith}
-use lib.Dec.{lit≤}
 use borrow.Author.Needs.{needs}
 use Rattle.format.specs.Layout.{standard}
 use Rattle.format.specs.Laws.Build.Lengths.{length-most}
 use Rattle.builder.specs.Answers.{builtOf}
 use Rattle.codes.proofs.Coded.{code-given, code-refused, told-given, told-refused, returned}
-use Rattle.fieldmap.specs.Refusals.{length-up-to}
 use Rattle.exports.proofs.write.fieldmap_build_length.Statement.{statement}
 use Rattle.exports.proofs.write.fieldmap_build_length.Tie as tie
 
@@ -21,23 +19,22 @@ given-requires c κs =
 
 returns : tie.Need-returns
 returns c =
-    let w : tie.After-width = search in
+    let named : tie.After-layout = search in
     let call : tie.After-build-length = search in
     let told : tie.After-end = search in
     let e = sym (call .build-length .ensures) ∙ ap builtOf (told .end .given .1) in
     let r = returned (c .given .ok) (c .given .ensures) in
-    rw (sym (w .width .ensures))
+    rw (sym (named .layout .ensures))
     (code-given (λ (n : ℕ). n) e r, told-given e r)
 
 returns-2 : tie.Need-returns-2
 returns-2 c =
-    let w : tie.After-width = search in
+    let named : tie.After-layout = search in
     let call : tie.After-build-length = search in
     let e = sym (call .build-length .ensures) ∙ ap builtOf (c .before .before .why .given .1) in
     let r = returned (c .refused .ok) (c .refused .ensures) in
-    let up = length-up-to _ (lit≤ tt) (lit≤ tt) _ _ in
-    rw (sym (w .width .ensures))
-    (code-refused (λ (n : ℕ). n) e r, told-refused (lit≤ tt) up (c .before .before .why .given .0 .0) e r)
+    rw (sym (named .layout .ensures))
+    (code-refused (λ (n : ℕ). n) e r, told-refused (c .before .before .why .given .0 .0) e r)
 
 pub fieldmap-build-length-spec : {M : Type 1} → statement M
 fieldmap-build-length-spec =

@@ -10,7 +10,7 @@ use lib.ListN.{length, replicate, length-append, length-replicate}
 use lib.Dec.{ltb}
 use borrow.Author.Tests.{le-leb, lt-ltb, eq-eqb}
 use Rattle.format.specs.declared.Entry.{Entry}
-use Rattle.format.specs.Layout.{Width, two, four, eight, bytes, Layout, signBits, pointer, innerSize, recordSize, recordAlign, Limits, nested}
+use Rattle.format.specs.Layout.{Width, two, four, eight, bytes, Layout, entriesInRange, signBits, pointer, innerSize, recordSize, recordAlign, Limits, nested}
 use Rattle.format.specs.Bytes.{leBytes}
 use Rattle.format.specs.RelPtr.{at, target}
 use Rattle.format.specs.Align.{zerosTo}
@@ -24,7 +24,7 @@ use Rattle.format.specs.TreeShape.{pairsOf, keysOf, flat, flatBranch, de
 use Rattle.format.specs.NodeRelation.{Holds, Valid}
 use Rattle.format.specs.Laws.Numbers.Align.{step-aligned}
 use Rattle.format.specs.Laws.Numbers.Bytes.{length-leBytes}
-use Rattle.format.specs.Laws.Numbers.Widths.{bytes-some}
+use Rattle.format.specs.Laws.Numbers.Widths.{bytes-some, range-in}
 use Rattle.format.specs.Laws.Check.Complete.{pass, complete}
 use Rattle.format.specs.Laws.Build.Filling.{fill-flat, fill-took, BranchDone, fill-done, fill-depth}
 use Rattle.format.specs.Laws.Build.Height.{Fitting, fitting}
@@ -51,6 +51,7 @@ rises-pairs (x ∷ l) = rises-from (x .key) l
 module _ (L : Layout) (M : Limits) (s : List ℕ) where
   -- The record passes its tests.
   record Recorded : Type 0 where
+    range : entriesInRange L ≡ true
     small : length s ≤ M .longest
     fits : recordSize L ≤ length s
     aligned : root L s % recordAlign L ≡ 0
@@ -59,7 +60,7 @@ module _ (L : Layout) (M : Limits) (s : List ℕ) where
   recorded-passes : Recorded → checkArchive L M s ≡ checkRoot L M s (recorded L s)
   unfolding checkArchive
   recorded-passes R =
-      pass (le-leb _ _ (R .small)) _ _ ∙ pass (le-leb _ _ (R .fits)) _ _ ∙ pass (eq-eqb _ _ (R .aligned)) _ _ ∙ pass (lt-ltb _ _ (R .enters)) _ _
+      pass (R .range) _ _ ∙ pass (le-leb _ _ (R .small)) _ _ ∙ pass (le-leb _ _ (R .fits)) _ _ ∙ pass (eq-eqb _ _ (R .aligned)) _ _ ∙ pass (lt-ltb _ _ (R .enters)) _ _
 
   -- With a root that holds n + 1 entries.
   record Sure (n : ℕ) (es : List KeyValue) : Type 0 where
@@ -164,13 +165,14 @@ module _ (L : Layout) where
 
 module _ (L : Layout) (M : Limits) (front : List ℕ) where
   -- The archive of a tree that the layout can hold.
-  tree-sure : (t : Tree) (n : ℕ) → 1 < M .depth → L .entries < 65536 → WfT L t → depthT t ≤ nested M → length (flat t) ≡ suc n
+  tree-sure : (t : Tree) (n : ℕ) → 1 < M .depth → entriesInRange L ≡ true → WfT L t → depthT t ≤ nested M → length (flat t) ≡ suc n
       → suc n < 256 ^ pointer L
       → rises (keysOf (flat t)) ≡ true → TreeNear L (2 ^ signBits (L .width)) t (start L (someB t) (length front)) → innerSize L ≤ 2 ^ signBits (L .width)
       → M .longest < 2 ^ 63 → length (s L front (someB t) (suc n)) ≤ M .longest
       → Sure L M (s L front (someB t) (suc n)) n (flat t)
   unfolding p W R
-  tree-sure t n deep few w hd hn hw ha far near short small =
+  tree-sure t n deep range w hd hn hw ha far near short small =
+      let few : L .entries < 65536 = omega (arith, range-in L range) in
       let b = someB t in
       let a = s L front b (suc n) in
       let q = start L b (length front) in
@@ -185,6 +187,7 @@ module _ (L : Layout) (M : Limits) (front : List ℕ) where
       record {
         recorded-ok =
             record {
+              range = range;
               small = small;
               fits = omega (arith, length-s L front b (suc n));
               aligned = pointer-divides (L .width) (root L a) (omega arith);
@@ -205,26 +208,27 @@ module _ (L : Layout) (M : Limits) (front : List ℕ) where
     pub certified : certify L M (archive L front es) ≡ accepted (length es) stop
     pub gives : pairsOf (list L M (archive L front es)) ≡ es
 
-  branch-sure : (b : Branch) (es : List KeyValue) (n : ℕ) → There b → 1 < M .depth → L .entries < 65536 → WfBranch L b
+  branch-sure : (b : Branch) (es : List KeyValue) (n : ℕ) → There b → 1 < M .depth → entriesInRange L ≡ true → WfBranch L b
       → depthBranch b ≤ nested M → flatBranch b ≡ es
       → length es ≡ suc n → suc n < 256 ^ pointer L → rises (keysOf es) ≡ true
       → BranchNear L (2 ^ signBits (L .width)) b (start L b (length front)) → innerSize L ≤ 2 ^ signBits (L .width) → M .longest < 2 ^ 63
       → length (s L front b (suc n)) ≤ M .longest → Sure L M (s L front b (suc n)) n es
-  branch-sure noneB es n th deep few w hd ef hn hw ha far near short small = absurd th
-  branch-sure (someB t) es n th deep few w hd ef hn hw ha far near short small =
+  branch-sure noneB es n th deep range w hd ef hn hw ha far near short small = absurd th
+  branch-sure (someB t) es n th deep range w hd ef hn hw ha far near short small =
       subst (λ (x : List KeyValue). Sure L M (s L front (someB t) (suc n)) n x) ef
-      (tree-sure t n deep few w hd (ap length ef ∙ hn) hw (ap (λ (l : List KeyValue). rises (keysOf l)) ef ∙ ha) far near short small)
+      (tree-sure t n deep range w hd (ap length ef ∙ hn) hw (ap (λ (l : List KeyValue). rises (keysOf l)) ef ∙ ha) far near short small)
 
   -- No entries.
-  pub built-none : 1 < M .depth → length (archive L front []) ≤ M .longest → Built []
+  pub built-none : entriesInRange L ≡ true → 1 < M .depth → length (archive L front []) ≤ M .longest → Built []
   unfolding archive treeOf s p
-  built-none deep small =
+  built-none range deep small =
       let a = s L front noneB 0 in
       let er = root-is L front noneB 0 in
       let big = wide (L .width) in
       let al : start L noneB (length front) % pointer L ≡ 0 = step-aligned (pointer L) (length front) (bytes-some (L .width)) in
       let er′ : root L a ≡ start L noneB (length front) = er ∙ add-zero _ in
-      let R : Recorded L M a = record { small = small; fits = omega (arith, length-s L front noneB 0); aligned = rw er′ al; enters = deep } in
+      let R : Recorded L M a =
+      record { range = range; small = small; fits = omega (arith, length-s L front noneB 0); aligned = rw er′ al; enters = deep } in
       let (ec, el) = sure-empty L M a R (recorded-is L front noneB 0 (omega arith)) in
       record { stop = 0; certified = ec; gives = ap pairsOf el }
 
@@ -274,18 +278,19 @@ module _ (L : Layout) where
   tree-there e es some = let T = tree-of e es some in subst There (sym (T .is)) (T .done .starts (omega (arith, T .fit .last-pos)))
 
   -- One entry or more.
-  pub built-some : (M : Limits) (front : List ℕ) (e : KeyValue) (es : List KeyValue) → 0 < L .entries → AllFit (e ∷ es) → 1 < M .depth
-      → L .entries < 65536 → rises (keysOf (e ∷ es)) ≡ true → height L (length (e ∷ es)) ≤ nested M → length (e ∷ es) < 256 ^ pointer L
+  pub built-some : (M : Limits) (front : List ℕ) (e : KeyValue) (es : List KeyValue) → entriesInRange L ≡ true → AllFit (e ∷ es) → 1 < M .depth
+      → rises (keysOf (e ∷ es)) ≡ true → height L (length (e ∷ es)) ≤ nested M → length (e ∷ es) < 256 ^ pointer L
       → BranchNear L (2 ^ signBits (L .width)) (treeOf L (e ∷ es)) (start L (treeOf L (e ∷ es)) (length front)) → innerSize L ≤ 2 ^ signBits (L .width)
       → M .longest < 2 ^ 63 → length (archive L front (e ∷ es)) ≤ M .longest → Built L M front (e ∷ es)
   unfolding archive s
-  built-some M front e es some fit deep few asc hd hw far near short small =
+  built-some M front e es range fit deep asc hd hw far near short small =
       let all = e ∷ es in
+      let some : 0 < L .entries = omega (arith, range-in L range) in
       let T = tree-of e es some in
       let wf : WfBranch L (treeOf L all) = subst (WfBranch L) (sym (T .is)) (T .done .wf fit) in
       let m = lastLevel L (length all) in
       let dp = fill-depth L (T .fit .above) m all in
       let ed : depthBranch (treeOf L all) ≡ depthBranch (fill L (T .fit .above) m all .branch) = ap depthBranch (T .is) in
-      let S = branch-sure L M front (treeOf L all) all (length es) (tree-there e es some) deep few wf (omega (arith, T .fit .height-is))
+      let S = branch-sure L M front (treeOf L all) all (length es) (tree-there e es some) deep range wf (omega (arith, T .fit .height-is))
       (tree-flat T) refl hw asc far near short small in
       record { stop = _; certified = sure L M (archive L front all) (length es) all S; gives = ap pairsOf (sure-list L M (archive L front all) S) ∙ S .gives }

@@ -20,12 +20,13 @@ use Rattle.format.specs.Offsets.{archiveEmplaces}
 use Rattle.format.specs.Build.{height, lastLevel, treeOf, start, behind, archive, pairs, rises, build}
 use Rattle.format.specs.Built.{Taken, Certifies}
 use Rattle.format.specs.Weight.{reach}
+use Rattle.format.specs.Laws.Numbers.Widths.{in-range}
 use Rattle.format.specs.Laws.Build.BytesAt.{wide}
 use Rattle.format.specs.Laws.Build.Built.{Built, built-none, built-some}
 use Rattle.format.specs.Laws.Build.Emplaces.{bits-node, reach-near, archive-emplaces}
 use Rattle.format.specs.Laws.Build.Longest.{height-most, inner-most, tree-long, reach-small, start-near, archive-most}
 use Rattle.format.specs.Laws.Build.Given.{keys-pairs, values-pairs, length-pairs, pairs-fit, keys-list, values-list}
-use Rattle.format.specs.Laws.Build.Taken.{passes, under, in-range, taken, layout-takes, only-16}
+use Rattle.format.specs.Laws.Build.Taken.{passes, under, taken, layout-takes, only-16}
 
 bits-wide : (w : Width) → 4 ≤ bytes w → 2147483648 ≤ 2 ^ signBits w
 bits-wide two l = absurd (omega arith)
@@ -56,11 +57,11 @@ module _ (L : Layout) (least : 3 ≤ L .entries) (most : L .entries ≤ 15) wher
   built : (front : List ℕ) (es : List KeyValue) → length front ≤ 4096 → length es ≤ 40000 → AllFit es → rises (keysOf es) ≡ true
       → archiveEmplaces L (treeOf L es) (start L (treeOf L es) (length front)) ≡ true → Built L standard front es
   unfolding standard nested
-  built front [] low few fit asc off = built-none L standard front (lit≤ tt) (archive-most L least most front [] low few)
+  built front [] low few fit asc off = built-none L standard front (in-range L least most) (lit≤ tt) (archive-most L least most front [] low few)
   built front (e ∷ es) low few fit asc off =
       let n = length (e ∷ es) in
       let r : reach L (height L n - 1) (lastLevel L n) ≤ 2 ^ signBits (L .width) = leb-true _ _ (sym (emplaces-by (e ∷ es) (length front) low few) ∙ off) in
-      built-some L standard front e es (omega arith) fit (lit≤ tt) (omega arith) asc (omega (arith, height-most L least most n (omega arith) few))
+      built-some L standard front e es (in-range L least most) fit (lit≤ tt) asc (omega (arith, height-most L least most n (omega arith) few))
       (omega (arith, wide (L .width))) (reach-near L e es (start L (treeOf L (e ∷ es)) (length front)) (omega arith) r)
       (omega (arith, inner-most L least most, bits-node (L .width))) (lit≤ tt) (archive-most L least most front (e ∷ es) low few)
 

@@ -72,3 +72,14 @@ module _ (L : Layout) (some : 0 < L .entries) where
   pub fitting : (n : ℕ) → 0 < n → Fitting n
   unfolding height
   fitting n h₀ = fit-of n (logFrom L n n) refl (level n n h₀ (omega arith))
+
+  -- It is 1 + floor (log n) to the base entries + 1.
+  pub height-log : (n : ℕ) → 0 < n → (suc (L .entries) ^ (height L n - 1) ≤ n) × (n < suc (L .entries) ^ height L n)
+  unfolding height
+  height-log n h₀ =
+      let h = logFrom L n n in
+      let v = level n n h₀ (omega arith) in
+      let es : suc h - 1 ≡ h = omega arith in
+      let lo : suc (L .entries) ^ h ≤ n = rw (power h) (omega (arith, v .over)) in
+      let hi : n < suc (L .entries) ^ suc h = rw (power (suc h)) (omega (arith, v .under)) in
+      (rw es lo, hi)

@@ -9,19 +9,20 @@ use native.Mathlib.Nat.{suc-ne-zero}
 use lib.Dec.{leb}
 use lib.ListN.{length, replicate, length-replicate}
 use borrow.Author.Tests.{leb-true, le-leb, lt-leb, eq-eqb}
-use Rattle.format.specs.Layout.{Layout, signBits, pointer, standard}
+use Rattle.format.specs.Layout.{Layout, entriesInRange, signBits, pointer, standard}
 use Rattle.format.specs.Refusal.{Answer, gives, refuses, provided, andThen}
 use Rattle.format.specs.Align.{zerosTo}
 use Rattle.format.specs.Tree.{Branch, noneB, someB, lengthBranch, KeyValue}
 use Rattle.format.specs.TreeShape.{There}
 use Rattle.format.specs.Offsets.{archiveEmplaces}
-use Rattle.format.specs.Build.{height, lastLevel, treeOf, firstAlign, start, behind, pairs, rises, entriesInRange, build, buildLength}
+use Rattle.format.specs.Build.{height, lastLevel, treeOf, firstAlign, start, behind, pairs, rises, build, buildLength}
 use Rattle.format.specs.Weight.{weight, reach}
+use Rattle.format.specs.Laws.Numbers.Widths.{in-range, range-in}
 use Rattle.format.specs.Laws.Build.Built.{behind-length, tree-there}
 use Rattle.format.specs.Laws.Build.Weight.{tree-weighs}
 use Rattle.format.specs.Laws.Build.Longest.{end-most}
 use Rattle.format.specs.Laws.Build.Given.{length-pairs}
-use Rattle.format.specs.Laws.Build.Taken.{provided-inv, passes, fails, under, in-range, range-in, taken}
+use Rattle.format.specs.Laws.Build.Taken.{provided-inv, passes, fails, under, taken}
 use Rattle.format.specs.Laws.Build.Certifies.{emplaces-by, wide-emplaces}
 
 -- ---- other entries, as many

@@ -9,12 +9,12 @@ use lib.ListN.{length, take, drop, length-append}
 use lib.Seq.{sets-eq, length-take-le, take-at}
 use lib.Dec.{leb, eqb}
 use borrow.Author.Tests.{leb-true, eqb-true, le-leb, eq-eqb}
-use Rattle.format.specs.Layout.{Layout}
+use Rattle.format.specs.Layout.{Layout, entriesInRange}
 use Rattle.format.specs.Refusal.{Answer, gives, refuses, provided}
 use Rattle.format.specs.Offsets.{archiveEmplaces}
-use Rattle.format.specs.Build.{treeOf, start, behind, archive, pairs, rises, entriesInRange, build, outBy, outAfter}
+use Rattle.format.specs.Build.{treeOf, start, behind, archive, pairs, rises, build, outBy, outAfter}
 use Rattle.format.specs.Built.{Taken, LayoutTakes}
-use Rattle.format.specs.Laws.Numbers.Tests.{and-true}
+use Rattle.format.specs.Laws.Numbers.Widths.{in-range, range-in}
 use Rattle.format.specs.Laws.Build.Given.{length-pairs}
 
 -- ---- one test after another
@@ -44,12 +44,6 @@ under true n h = h refl
 under false n h = refl
 
 -- ---- what a build takes
-
-pub in-range : (L : Layout) → 3 ≤ L .entries → L .entries ≤ 15 → entriesInRange L ≡ true
-in-range L least most = and-true _ _ .1 (le-leb 3 (L .entries) least, le-leb (L .entries) 15 most)
-
-pub range-in : (L : Layout) → entriesInRange L ≡ true → (3 ≤ L .entries) × (L .entries ≤ 15)
-range-in L e = let t = and-true (leb 3 (L .entries)) (leb (L .entries) 15) .0 e in (leb-true _ _ (t .0), leb-true _ _ (t .1))
 
 module _ (L : Layout) (ks vs : List ℕ) (h : ℕ) where
   -- The archive's end, and whether the width holds its offsets.

@@ -88,6 +88,9 @@ module _ (L : Layout) (M : Limits) (s : List ℕ) where
     pub is-recorded : n ≡ recorded L s
     is-recorded = archive L M s n next accepts .1
 
+    pub entries-few : L .entries ≤ 15
+    entries-few = arch .most
+
     pub room-for : recordSize L ≤ length s
     room-for = arch .room
 

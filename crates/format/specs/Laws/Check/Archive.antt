@@ -8,13 +8,14 @@ use native.Mathlib.Omega.{arith}
 use lib.ListN.{length}
 use lib.Dec.{leb, ltb, eqb}
 use borrow.Author.Tests.{leb-true, eqb-true}
-use Rattle.format.specs.Layout.{Layout, recordSize, recordAlign, Limits, nested}
+use Rattle.format.specs.Layout.{Layout, entriesInRange, recordSize, recordAlign, Limits, nested}
 use Rattle.format.specs.RelPtr.{at, target}
 use Rattle.format.specs.Check.{accepted, checkNode, root, recorded, checkRoot, checkArchive}
 use Rattle.format.specs.Entries.{listOf, list}
 use Rattle.format.specs.Reachable.{Field, Lands, Apart}
 use Rattle.format.specs.NodeRelation.{Valid}
 use Rattle.format.specs.Accepted.{Rooted, Archive}
+use Rattle.format.specs.Laws.Numbers.Widths.{range-in}
 use Rattle.format.specs.Laws.Check.Count.{count}
 use Rattle.format.specs.Laws.Check.Reach.{wider, inside, lands, apart, once}
 use Rattle.format.specs.Laws.Check.Sound.{guard-inv, bind-inv, sound}
@@ -41,12 +42,14 @@ module _ (L : Layout) (M : Limits) (s : List ℕ) where
   pub archive : (n t : ℕ) → checkArchive L M s ≡ accepted n t → Archive L M s × (n ≡ recorded L s)
   unfolding checkArchive
   archive n t e =
-      let (e₁, a₁) = guard-inv (leb (length s) (M .longest)) _ _ e in
+      let (e₀, a₀) = guard-inv (entriesInRange L) _ _ e in
+      let (e₁, a₁) = guard-inv (leb (length s) (M .longest)) _ _ a₀ in
       let (e₂, a₂) = guard-inv (leb (recordSize L) (length s)) _ _ a₁ in
       let (e₃, a₃) = guard-inv (eqb (root L s % recordAlign L) 0) _ _ a₂ in
       let (e₄, a₄) = guard-inv (ltb 1 (M .depth)) _ _ a₃ in
       let (en, h) = root-inv (recorded L s) n t refl a₄ in
-      (record { small = leb-true _ _ e₁; room = leb-true _ _ e₂; rooted = h }, en)
+      let r = range-in L e₀ in
+      (record { least = r .0; most = r .1; small = leb-true _ _ e₁; room = leb-true _ _ e₂; rooted = h }, en)
 
   module _ (A : Archive L M s) where
     -- Every reachable field leads to an aligned node that lies before the record.

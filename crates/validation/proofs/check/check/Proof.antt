@@ -1,23 +1,43 @@
 -- `validation::check::check` meets its contract. Assumes nothing.
-use mathlib.Core.Path.{_≡_, refl, ap, _∙_}
+use mathlib.Core.Path.{_≡_, refl, sym, ap, _∙_}
+use mathlib.Core.Bool.{true}
 use native.Mathlib.Omega.{arith}
+use borrow.Author.Tests.{not-true, not-false}
 use lib.ListN.{length}
 use Prim.Native.Nat.{_-_}
-use Rattle.format.specs.Layout.{layoutOf, standard, recordSize, recordAlign}
+use Rattle.format.specs.Layout.{layoutOf, entriesInRange, standard, recordSize, recordAlign}
+use Rattle.format.specs.Laws.Numbers.Widths.{range-in}
 use Rattle.subtrees.specs.Subtree.{opened}
 use Rattle.subtrees.specs.declared.archive.SubtreeRange.{SubtreeRange}
-use Rattle.validation.proofs.Record.{archive-long, archive-short, archive-refused, archive-opened}
+use Rattle.validation.proofs.Record.{archive-out, archive-long, archive-short, archive-refused, archive-opened}
 use borrow.Author.Needs.{needs}
 use Rattle.validation.proofs.check.check.Statement.{statement}
 use Rattle.validation.proofs.check.check.Tie as tie
 
+-- The layout is in range behind the first test.
+named : (c : tie.Else1) → let start : tie.Start = search in entriesInRange (layoutOf (start .args .layout)) ≡ true
+named c = let tested : tie.After-in-range = search in sym (tested .in-range .ensures) ∙ not-false _ (c .if1 .left)
+
 returns : tie.Need-returns
-unfolding standard
-returns c = let start : tie.Start = search in archive-long (layoutOf (start .args .layout)) standard _ (omega arith)
+returns c =
+    let start : tie.Start = search in
+    let tested : tie.After-in-range = search in
+    let out-of : tie.Then1 = search in
+    archive-out (layoutOf (start .args .layout)) standard _ (sym (tested .in-range .ensures) ∙ not-true _ (out-of .if1 .taken))
 
 returns-2 : tie.Need-returns-2
 unfolding standard
-returns-2 c = let start : tie.Start = search in archive-short (layoutOf (start .args .layout)) standard _ (omega arith) (omega arith)
+returns-2 c =
+    let start : tie.Start = search in
+    let in-range : tie.Else1 = search in
+    archive-long (layoutOf (start .args .layout)) standard _ (named in-range) (omega arith)
+
+returns-3 : tie.Need-returns-3
+unfolding standard
+returns-3 c =
+    let start : tie.Start = search in
+    let in-range : tie.Else1 = search in
+    archive-short (layoutOf (start .args .layout)) standard _ (named in-range) (omega arith) (omega arith)
 
 -- What the test of the record's place answers.
 asked : (c : tie.After-in-subtree)
@@ -28,42 +48,48 @@ asked : (c : tie.After-in-subtree)
 unfolding standard
 asked c = let sized : tie.After-record = search in rw (sized .record .ensures .0, c .before .pointer .ensures .0) at (c .in-subtree .ensures)
 
-returns-3 : tie.Need-returns-3
+returns-4 : tie.Need-returns-4
 unfolding standard
-returns-3 c =
+returns-4 c =
     let told : tie.After-enum-told2 = search in
     let place : tie.After-in-subtree = search in
-    archive-refused _ standard _ (omega arith) (omega arith) (asked place) (told .enum-told2 .given .1)
+    let in-range : tie.Else1 = search in
+    archive-refused _ standard _ (named in-range) (omega arith) (omega arith) (asked place) (told .enum-told2 .given .1)
     (c .before .refused-ptr .ensures) (c .refused-node .ensures)
 
 verify-requires : tie.Need-verify-requires
 unfolding standard
 verify-requires c κs =
     let e = c .push-subtree-range .ensures in
-    (search needs, omega arith, omega arith, ap (λ (r : SubtreeRange). r .start .0) e, ap (λ (r : SubtreeRange). r .end .0) e, refl)
+    let start : tie.Start = search in
+    let in-range : tie.Else1 = search in
+    (range-in (layoutOf (start .args .layout)) (named in-range) .1, omega arith, omega arith, ap (λ (r : SubtreeRange). r .start .0) e, ap (λ (r : SubtreeRange). r .end .0) e, refl)
 
-returns-4 : tie.Need-returns-4
+returns-5 : tie.Need-returns-5
 unfolding standard
-returns-4 c =
+returns-5 c =
     let told : tie.After-enum-told = search in
     let place : tie.After-in-subtree = search in
-    c .verify .ensures ∙ archive-opened _ standard _ (omega arith) (omega arith) (asked place) (told .enum-told .given .1)
+    let in-range : tie.Else1 = search in
+    c .verify .ensures ∙ archive-opened _ standard _ (named in-range) (omega arith) (omega arith) (asked place) (told .enum-told .given .1)
 
 pub check-spec : {M : Type 1} → statement M
 check-spec =
     tie.close
     (tie.spec
+    (search needs)
     returns
-    (search needs)
     returns-2
-    (search needs)
-    (search needs)
-    (search needs)
-    (search needs)
-    (search needs)
     (search needs)
     returns-3
     (search needs)
     (search needs)
+    (search needs)
+    (search needs)
+    (search needs)
+    (search needs)
+    returns-4
+    (search needs)
+    (search needs)
     verify-requires
-    returns-4)
+    returns-5)
