@@ -4,8 +4,8 @@
  * The functions are those of the static library libexports.a, for x86-64 Linux. They call nothing but memcpy and memset, keep no state and
  * allocate nothing, so any number of threads may call them at once. docs/USING.md shows how to link it from C, C++, Python and Rust.
  *
- * What a function answers. A number from 0 on, or, where it refuses, minus the refusal's number, -1 to -18: a negative answer is a refusal, and
- * stays one if it is cut to an int. What the answer has no room for is stored through the pointers that come last. A refused call writes
+ * What a function answers. A number from 0 on, or, where it refuses, minus the refusal's number, -1 to -18 and -24: a negative answer is a refusal,
+ * and stays one if it is cut to an int. What the answer has no room for is stored through the pointers that come last. A refused call writes
  * nothing.
  *
  * How arguments pass. A list passes as a pointer to its first element and the number of its elements. Where that number is 0 the pointer is not
@@ -25,14 +25,15 @@ extern "C" {
 
 /* The version of these declarations. */
 #define FIELDMAP_VERSION_MAJOR 0
-#define FIELDMAP_VERSION_MINOR 4
+#define FIELDMAP_VERSION_MINOR 5
 #define FIELDMAP_VERSION_PATCH 0
-#define FIELDMAP_VERSION "0.4.0"
+#define FIELDMAP_VERSION "0.5.0"
 
-/* The limits. */
+/* The limits, which are the same by every layout. */
 #define FIELDMAP_LONGEST_ARCHIVE 1048576 /* bytes of an archive */
 #define FIELDMAP_MOST_NESTED 14          /* nodes below each other */
-#define FIELDMAP_MOST_IN_LEAF 5          /* entries of a leaf */
+#define FIELDMAP_FEWEST_IN_NODE 3        /* the entries a node that a layout can have, at least */
+#define FIELDMAP_MOST_IN_NODE 15         /* and at most */
 #define FIELDMAP_MOST_ENTRIES 40000      /* entries of a build */
 #define FIELDMAP_LONGEST_HEADER 4096     /* bytes in front of a built archive */
 
@@ -43,14 +44,14 @@ extern "C" {
 #define FIELDMAP_MUST_USE
 #endif
 
-/* The refusals, in checking order. */
+/* The refusals, in checking order, but for 24, which comes before every other. */
 enum {
     FIELDMAP_ARCHIVE_TOO_LONG = 1,                /* the archive is longer than 1,048,576 bytes */
     FIELDMAP_INVALID_SUBTREE_POINTER = 2,         /* the record or a node leaves its range */
     FIELDMAP_UNALIGNED_POINTER = 3,               /* the record or a node is not on its alignment */
     FIELDMAP_INVALID_KIND = 4,                    /* a node's kind byte is neither 0 nor 1 */
     FIELDMAP_EXCEEDED_MAXIMUM_SUBTREE_DEPTH = 5,  /* more than 14 nodes are nested */
-    FIELDMAP_INVALID_LENGTH = 6,                  /* a leaf's count is above 5 */
+    FIELDMAP_INVALID_LENGTH = 6,                  /* a leaf's count is above the layout's entries a node */
     FIELDMAP_ENTRIES_LENGTH_MISMATCH = 7,         /* the entries differ from the recorded count */
     FIELDMAP_HOLLOW_NODE = 8,                     /* a leaf is empty or an inner node has no first child */
     FIELDMAP_KEYS_NOT_ASCENDING = 9,              /* a key is not above the one before */
@@ -62,26 +63,40 @@ enum {
     FIELDMAP_ISIZE_OVERFLOW = 15,                 /* a distance does not fit 64 bits signed */
     FIELDMAP_OFFSET_OVERFLOW = 16,                /* an offset does not fit its width, of 16 or 32 bits signed */
     FIELDMAP_INVALID_ALIGNMENT = 17,              /* not 1, 2, 4, 8, 16 or 32, or the next position is too large */
-    FIELDMAP_KEY_FIELD_OVERFLOW = 18              /* an examination, an eye or a presentation does not fit its field */
+    FIELDMAP_KEY_FIELD_OVERFLOW = 18,             /* an examination, an eye or a presentation does not fit its field */
+    FIELDMAP_ENTRIES_OUT_OF_RANGE = 24            /* the layout's entries a node are not 3 to 15 */
 };
 
 /*
- * The widths: how many bits an archive's offsets and counts have. An archive does not say which it is, so the caller names it, and each call
- * that builds, checks or reads takes it first. rkyv has 32 bits at its defaults, the others with its features pointer_width_16 and
- * pointer_width_64. The sizes in bytes:
+ * The layouts. A layout is a width, the bits of each offset and of each count, and the entries a node. An archive does not say which layout it
+ * has, so the caller names it, and each call that builds, checks or reads takes width and entries first. rkyv has 32 bits at its defaults, the
+ * other widths with its features pointer_width_16 and pointer_width_64; the entries a node are the E of its ArchivedBTreeMap, by default 5.
  *
- *                             16 bits                  32 bits                  64 bits
- *   record                    4, at a multiple of 2    8, at a multiple of 4    16, at a multiple of 8
- *   leaf, inner node          96, 104                  96, 112                  96, 136
+ * The entries a node, e, may be any of 3 to 15. A call with another number is refused by 24 before every other refusal, whatever else it is
+ * given. The sizes in bytes, a number of the width having p bytes, which are 2, 4 or 8:
  *
- * What fieldmap_build writes of one entry or more is refused by a width above its own. By one below it passes, also certification, as an archive
- * without entries: the upper bits of its count are then read as the whole count. So where the width is not known, a count of 0 says nothing.
+ *   record                    2p, at a multiple of p
+ *   leaf                      16 + 16e, at a multiple of 8
+ *   inner node                8 + 16e + p(e + 1), rounded up to a multiple of 8; at a multiple of 8
+ *
+ * Reading by another width. What fieldmap_build writes of one entry or more is refused by a width above its own. By one below it passes, also
+ * certification, as an archive without entries: the upper bits of its count are then read as the whole count. So where the width is not known,
+ * a count of 0 says nothing.
+ *
+ * Reading by other entries a node. What fieldmap_build writes of one entry or more is refused by more entries a node than its own (2). By fewer
+ * it is refused or passes, which its values decide, and where it passes, also certification, its entries are read wrongly. Of no entries the
+ * archive is the same by all.
  */
 enum {
     FIELDMAP_WIDTH_16 = 16,
     FIELDMAP_WIDTH_32 = 32, /* any number other than 16 and 64 means the same */
     FIELDMAP_WIDTH_64 = 64
 };
+
+/* The layout that rkyv has at its defaults. As FIELDMAP_COMMON_LAYOUT it passes as both arguments. */
+#define FIELDMAP_COMMON_WIDTH FIELDMAP_WIDTH_32
+#define FIELDMAP_COMMON_ENTRIES 5
+#define FIELDMAP_COMMON_LAYOUT FIELDMAP_COMMON_WIDTH, FIELDMAP_COMMON_ENTRIES
 
 /* The kinds of a bound. */
 enum {
@@ -104,7 +119,7 @@ static inline const char *fieldmap_refusal_text(int64_t answer) {
     case -FIELDMAP_UNALIGNED_POINTER: return "the record or a node is not on its alignment";
     case -FIELDMAP_INVALID_KIND: return "a node is neither a leaf nor an inner node";
     case -FIELDMAP_EXCEEDED_MAXIMUM_SUBTREE_DEPTH: return "more than 14 nodes are nested";
-    case -FIELDMAP_INVALID_LENGTH: return "a leaf counts more than 5 entries";
+    case -FIELDMAP_INVALID_LENGTH: return "a leaf counts more entries than a node may have";
     case -FIELDMAP_ENTRIES_LENGTH_MISMATCH: return "the entries are not as many as recorded";
     case -FIELDMAP_HOLLOW_NODE: return "a leaf is empty, or an inner node has no first child";
     case -FIELDMAP_KEYS_NOT_ASCENDING: return "a key is not above the one before";
@@ -117,18 +132,23 @@ static inline const char *fieldmap_refusal_text(int64_t answer) {
     case -FIELDMAP_OFFSET_OVERFLOW: return "an offset does not fit its width";
     case -FIELDMAP_INVALID_ALIGNMENT: return "the alignment is none of 1, 2, 4, 8, 16 and 32, or the next position is too large";
     case -FIELDMAP_KEY_FIELD_OVERFLOW: return "an examination, an eye or a presentation does not fit its field";
+    case -FIELDMAP_ENTRIES_OUT_OF_RANGE: return "the entries a node are not 3 to 15";
     default: return "no refusal";
     }
 }
 
 /*
+ * The calls that take a layout. The refusals that stand at each come behind 24, which all of them give where `entries` is not 3 to 15.
+ */
+
+/*
  * The recorded count of an archive of at most 1,048,576 bytes that rkyv's check, with at most 14 nested nodes, accepts, or the first fault of 1
  * to 7.
  */
-FIELDMAP_MUST_USE int64_t fieldmap_check(uint8_t width, const uint8_t *archive, size_t archive_len);
+FIELDMAP_MUST_USE int64_t fieldmap_check(uint8_t width, size_t entries, const uint8_t *archive, size_t archive_len);
 
 /* The recorded count of an accepted archive whose keys strictly ascend and that has no hollow node, or the first fault of 1 to 9. */
-FIELDMAP_MUST_USE int64_t fieldmap_certify(uint8_t width, const uint8_t *archive, size_t archive_len);
+FIELDMAP_MUST_USE int64_t fieldmap_certify(uint8_t width, size_t entries, const uint8_t *archive, size_t archive_len);
 
 /*
  * Each reader below runs the check first, range and column certification, on every call.
@@ -140,21 +160,22 @@ FIELDMAP_MUST_USE int64_t fieldmap_certify(uint8_t width, const uint8_t *archive
  * archive that is only accepted it is what rkyv's search finds, which can miss an entry that the walk shows.
  */
 FIELDMAP_MUST_USE int64_t fieldmap_lookup(
-    uint8_t width, const uint8_t *archive, size_t archive_len, uint64_t key, uint64_t *value, uint64_t *position);
+    uint8_t width, size_t entries, const uint8_t *archive, size_t archive_len, uint64_t key, uint64_t *value, uint64_t *position);
 
 /*
  * The eight bytes of the value that fieldmap_lookup finds, as a part of the archive: the answer is the part's length, 8, and the position where
  * it starts is stored. Where it finds none, the part is empty: the answer is 0, and nothing is stored. It finds and misses what
  * fieldmap_lookup does.
  */
-FIELDMAP_MUST_USE int64_t fieldmap_lookup_bytes(uint8_t width, const uint8_t *archive, size_t archive_len, uint64_t key, uint64_t *start);
+FIELDMAP_MUST_USE int64_t fieldmap_lookup_bytes(
+    uint8_t width, size_t entries, const uint8_t *archive, size_t archive_len, uint64_t key, uint64_t *start);
 
 /*
  * Looks up keys after one check, each as fieldmap_lookup does. The value of a key that is found goes to the place of its key in the values;
  * other places keep what they hold, and keys beyond the values' places are not looked up. The number of keys found.
  */
 FIELDMAP_MUST_USE int64_t fieldmap_lookup_many(
-    uint8_t width, const uint8_t *archive, size_t archive_len, const uint64_t *keys, size_t keys_len,
+    uint8_t width, size_t entries, const uint8_t *archive, size_t archive_len, const uint64_t *keys, size_t keys_len,
     uint64_t *values, size_t values_len);
 
 /*
@@ -162,15 +183,16 @@ FIELDMAP_MUST_USE int64_t fieldmap_lookup_many(
  * recorded count is stored.
  */
 FIELDMAP_MUST_USE int64_t fieldmap_walk(
-    uint8_t width, const uint8_t *archive, size_t archive_len, uint64_t *keys, size_t keys_len, uint64_t *values, size_t values_len,
-    uint64_t *count);
+    uint8_t width, size_t entries, const uint8_t *archive, size_t archive_len, uint64_t *keys, size_t keys_len,
+    uint64_t *values, size_t values_len, uint64_t *count);
 
 /*
  * Writes keys and values of the entries of a certified archive that meet both bounds, as a walk does. The number written; the number of entries
  * that match is stored. Where the bounds cross, nothing matches.
  */
 FIELDMAP_MUST_USE int64_t fieldmap_range(
-    uint8_t width, const uint8_t *archive, size_t archive_len, uint8_t lower_kind, uint64_t lower, uint8_t upper_kind, uint64_t upper,
+    uint8_t width, size_t entries, const uint8_t *archive, size_t archive_len,
+    uint8_t lower_kind, uint64_t lower, uint8_t upper_kind, uint64_t upper,
     uint64_t *keys, size_t keys_len, uint64_t *values, size_t values_len, uint64_t *matching);
 
 /*
@@ -188,23 +210,24 @@ FIELDMAP_MUST_USE int64_t fieldmap_range(
  * 18, where the examination or the eye does not fit its field, comes after 1 to 9.
  */
 FIELDMAP_MUST_USE int64_t fieldmap_column(
-    uint8_t width, const uint8_t *archive, size_t archive_len, uint8_t packing, uint32_t examination, uint8_t eye, int8_t a, int8_t b,
+    uint8_t width, size_t entries, const uint8_t *archive, size_t archive_len,
+    uint8_t packing, uint32_t examination, uint8_t eye, int8_t a, int8_t b,
     uint64_t *keys, size_t keys_len, uint64_t *values, size_t values_len, uint64_t *matching);
 
 /*
  * Writes the given entries as an archive behind the first `header` bytes of the output, which stay, as the bytes past the archive do. The
- * archive's end, or the first of 10 to 14, then 16. A reader takes the output up to that end. 16 arises with a width of 16 bits only, from 2,971
- * entries on.
+ * archive's end, or the first of 10 to 14, then 16. A reader takes the output up to that end. 16 arises with a width of 16 bits only, at the
+ * common number of entries a node from 2,971 entries on.
  */
 FIELDMAP_MUST_USE int64_t fieldmap_build(
-    uint8_t width, uint8_t *out, size_t out_len, size_t header, const uint64_t *keys, size_t keys_len,
+    uint8_t width, size_t entries, uint8_t *out, size_t out_len, size_t header, const uint64_t *keys, size_t keys_len,
     const uint64_t *values, size_t values_len);
 
 /*
- * How long an output has to be for a build of so many entries behind a header: the end that fieldmap_build will answer, or the first of 11, 13
+ * How long an output has to be for a build of `count` entries behind a header: the end that fieldmap_build will answer, or the first of 11, 13
  * and 16 as there.
  */
-FIELDMAP_MUST_USE int64_t fieldmap_build_length(uint8_t width, size_t entries, size_t header);
+FIELDMAP_MUST_USE int64_t fieldmap_build_length(uint8_t width, size_t entries, size_t count, size_t header);
 
 /* The parts answer 0 and store what they give. */
 
