@@ -1,6 +1,6 @@
 //! Bytes that have passed the check, as a type.
 
-use crate::{Certified, Entry, Refusal, Walked, Width};
+use crate::{Certified, Entry, Layout, Refusal, Walked, Width};
 
 /// Why a reader does not refuse bytes that passed before.
 pub(crate) const PASSED: &str = "the same bytes passed before";
@@ -24,7 +24,7 @@ pub(crate) const PASSED: &str = "the same bytes passed before";
 #[must_use]
 #[derive(Clone, Copy, Debug, PartialEq, Eq, Hash)]
 pub struct Archive<'a> {
-    width: Width,
+    layout: Layout,
     bytes: &'a [u8],
     count: usize,
 }
@@ -44,50 +44,65 @@ impl<'a> Archive<'a> {
     /// # Ok::<(), Refusal>(())
     /// ```
     pub fn check(bytes: &'a [u8]) -> Result<Self, Refusal> {
-        Self::check_at(Width::default(), bytes)
+        Self::check_at(Layout::COMMON, bytes)
     }
 
-    /// The archive of a width, if [`check_at`](crate::check_at()) accepts it. Its readers read by that width.
+    /// The archive of a layout, if [`check_at`](crate::check_at()) accepts it. Its readers read by that layout.
     ///
     /// # Errors
     ///
     /// The first fault of 1 to 7.
     ///
     /// ```
-    /// use fieldmap::{Archive, Width};
+    /// use fieldmap::{Archive, Layout, Width};
     ///
-    /// let mut bytes = [0; 100];
-    /// fieldmap::build_at(Width::Bits16, &mut bytes, 0, &[1, 5, 9], &[10, 50, 90])?;
-    /// let archive = Archive::check_at(Width::Bits16, &bytes)?;
+    /// let (mut bytes, layout) = ([0; 68], Layout::new(Width::Bits16, 3)?);
+    /// fieldmap::build_at(layout, &mut bytes, 0, &[1, 5, 9], &[10, 50, 90])?;
+    /// let archive = Archive::check_at(layout, &bytes)?;
     /// assert_eq!(archive.get(9).map(|entry| entry.value), Some(90));
     /// # Ok::<(), fieldmap::Refusal>(())
     /// ```
-    pub fn check_at(width: Width, bytes: &'a [u8]) -> Result<Self, Refusal> {
-        let count = crate::check_at(width, bytes)?;
-        Ok(Self::passed(width, bytes, count))
+    pub fn check_at(layout: Layout, bytes: &'a [u8]) -> Result<Self, Refusal> {
+        let count = crate::check_at(layout, bytes)?;
+        Ok(Self::passed(layout, bytes, count))
     }
 
     /// The archive whose recorded count the check or certification has just given.
-    pub(crate) fn passed(width: Width, bytes: &'a [u8], count: usize) -> Self {
+    pub(crate) fn passed(layout: Layout, bytes: &'a [u8], count: usize) -> Self {
         Self {
-            width,
+            layout,
             bytes,
             count,
         }
     }
 
-    /// The width that it was checked by, and is read by.
+    /// The layout that it was checked by, and is read by.
+    ///
+    /// ```
+    /// use fieldmap::{Archive, Layout, Width};
+    ///
+    /// let layout = Layout::new(Width::Bits16, 15)?;
+    /// assert_eq!(Archive::check(&[1, 0, 0, 0, 0, 0, 0, 0])?.layout(), Layout::COMMON);
+    /// assert_eq!(Archive::check_at(layout, &[1, 0, 0, 0])?.layout(), layout);
+    /// # Ok::<(), fieldmap::Refusal>(())
+    /// ```
+    #[must_use]
+    pub fn layout(self) -> Layout {
+        self.layout
+    }
+
+    /// The width of its [`layout`](Self::layout).
     ///
     /// ```
     /// use fieldmap::{Archive, Width};
     ///
     /// assert_eq!(Archive::check(&[1, 0, 0, 0, 0, 0, 0, 0])?.width(), Width::Bits32);
-    /// assert_eq!(Archive::check_at(Width::Bits16, &[1, 0, 0, 0])?.width(), Width::Bits16);
+    /// assert_eq!(Archive::check_at(Width::Bits16.into(), &[1, 0, 0, 0])?.width(), Width::Bits16);
     /// # Ok::<(), fieldmap::Refusal>(())
     /// ```
     #[must_use]
     pub fn width(self) -> Width {
-        self.width
+        self.layout.width()
     }
 
     /// The archive's bytes.
@@ -157,7 +172,7 @@ impl<'a> Archive<'a> {
     /// ```
     #[must_use]
     pub fn get(self, key: u64) -> Option<Entry> {
-        crate::lookup_at(self.width, self.bytes, key).expect(PASSED)
+        crate::lookup_at(self.layout, self.bytes, key).expect(PASSED)
     }
 
     /// The eight bytes of the value that [`get`](Self::get) finds, as a part of the archive, or the empty part. It misses what `get` misses.
@@ -172,7 +187,7 @@ impl<'a> Archive<'a> {
     /// ```
     #[must_use]
     pub fn get_bytes(self, key: u64) -> &'a [u8] {
-        crate::lookup_bytes_at(self.width, self.bytes, key)
+        crate::lookup_bytes_at(self.layout, self.bytes, key)
     }
 
     /// Looks up keys after one check, as [`lookup_many`](crate::lookup_many()) does, and gives the number found. It misses what
@@ -191,7 +206,7 @@ impl<'a> Archive<'a> {
     /// # Ok::<(), fieldmap::Refusal>(())
     /// ```
     pub fn get_many(self, keys: &[u64], values: &mut [u64]) -> usize {
-        crate::lookup_many_at(self.width, self.bytes, keys, values).expect(PASSED)
+        crate::lookup_many_at(self.layout, self.bytes, keys, values).expect(PASSED)
     }
 
     /// Whether [`get`](Self::get) finds an entry. It misses what `get` misses.
@@ -226,10 +241,10 @@ impl<'a> Archive<'a> {
     /// # Ok::<(), fieldmap::Refusal>(())
     /// ```
     pub fn walk(self, keys: &mut [u64], values: &mut [u64]) -> Walked {
-        crate::walk_at(self.width, self.bytes, keys, values).expect(PASSED)
+        crate::walk_at(self.layout, self.bytes, keys, values).expect(PASSED)
     }
 
-    /// The same archive, if [`certify_at`](crate::certify_at()) accepts it by its width. That checks again; [`Certified::certify_at`] takes bytes
+    /// The same archive, if [`certify_at`](crate::certify_at()) accepts it by its layout. That checks again; [`Certified::certify_at`] takes bytes
     /// and checks once.
     ///
     /// # Errors
@@ -243,6 +258,6 @@ impl<'a> Archive<'a> {
     /// # Ok::<(), fieldmap::Refusal>(())
     /// ```
     pub fn certify(self) -> Result<Certified<'a>, Refusal> {
-        Certified::certify_at(self.width, self.bytes)
+        Certified::certify_at(self.layout, self.bytes)
     }
 }

@@ -2,7 +2,7 @@
 
 use crate::ffi;
 use crate::refusal::{answer, Refusal};
-use crate::Width;
+use crate::Layout;
 
 /// Writes the given entries as an archive behind the first `header` bytes of the output, which stay, and gives the archive's end. Bytes past
 /// the end stay as well.
@@ -25,31 +25,33 @@ pub fn build(
     keys: &[u64],
     values: &[u64],
 ) -> Result<usize, Refusal> {
-    build_at(Width::default(), out, header, keys, values)
+    build_at(Layout::COMMON, out, header, keys, values)
 }
 
-/// As [`build`], an archive of a width.
+/// As [`build`], an archive of a layout.
 ///
 /// # Errors
 ///
-/// The first of 10 to 14. Then 16, where an offset does not fit 16 bits: at [`Width::Bits16`], from 2,971 entries on.
+/// The first of 10 to 14. Then 16, where an offset does not fit its width, which can be at [`Width::Bits16`](crate::Width::Bits16) only: with five
+/// entries a node from 2,971 entries on.
 ///
 /// ```
-/// use fieldmap::{build_at, Width};
+/// use fieldmap::{build_at, Layout, Width};
 ///
 /// let mut out = [0; 120];
-/// assert_eq!(build_at(Width::Bits16, &mut out, 5, &[7], &[9]), Ok(108));
-/// assert_eq!(build_at(Width::Bits32, &mut out, 5, &[7], &[9]), Ok(112));
-/// assert_eq!(build_at(Width::Bits64, &mut out, 5, &[7], &[9]), Ok(120));
+/// assert_eq!(build_at(Width::Bits16.into(), &mut out, 5, &[7], &[9]), Ok(108));
+/// assert_eq!(build_at(Width::Bits32.into(), &mut out, 5, &[7], &[9]), Ok(112));
+/// assert_eq!(build_at(Layout::new(Width::Bits32, 3)?, &mut out, 5, &[7], &[9]), Ok(80));
+/// # Ok::<(), fieldmap::Refusal>(())
 /// ```
 pub fn build_at(
-    width: Width,
+    layout: Layout,
     out: &mut [u8],
     header: usize,
     keys: &[u64],
     values: &[u64],
 ) -> Result<usize, Refusal> {
-    answer(ffi::build(width, out, header, keys, values))
+    answer(ffi::build(layout, out, header, keys, values))
 }
 
 /// How long an output has to be for a build of so many entries behind a header: the end that [`build`] will answer.
@@ -65,24 +67,25 @@ pub fn build_at(
 /// assert_eq!(fieldmap::build_length(40_001, 0), Err(Refusal::TooManyEntries));
 /// assert_eq!(fieldmap::build_length(1, 4_097), Err(Refusal::HeaderTooLong));
 /// ```
-pub fn build_length(entries: usize, header: usize) -> Result<usize, Refusal> {
-    build_length_at(Width::default(), entries, header)
+pub fn build_length(count: usize, header: usize) -> Result<usize, Refusal> {
+    build_length_at(Layout::COMMON, count, header)
 }
 
-/// As [`build_length`], of an archive of a width: the end that [`build_at`] will answer.
+/// As [`build_length`], of an archive of a layout: the end that [`build_at`] will answer.
 ///
 /// # Errors
 ///
 /// 11 or 13, then 16, as of the build.
 ///
 /// ```
-/// use fieldmap::{build_length_at, Refusal, Width};
+/// use fieldmap::{build_length_at, Layout, Refusal, Width};
 ///
-/// assert_eq!(build_length_at(Width::Bits16, 6, 0), Ok(204));
-/// assert_eq!(build_length_at(Width::Bits32, 6, 0), Ok(216));
-/// assert_eq!(build_length_at(Width::Bits64, 6, 0), Ok(248));
-/// assert_eq!(build_length_at(Width::Bits16, 2_971, 0), Err(Refusal::OffsetOverflow));
+/// assert_eq!(build_length_at(Width::Bits16.into(), 6, 0), Ok(204));
+/// assert_eq!(build_length_at(Width::Bits64.into(), 6, 0), Ok(248));
+/// assert_eq!(build_length_at(Layout::new(Width::Bits64, 15)?, 6, 0), Ok(272));
+/// assert_eq!(build_length_at(Width::Bits16.into(), 2_971, 0), Err(Refusal::OffsetOverflow));
+/// # Ok::<(), Refusal>(())
 /// ```
-pub fn build_length_at(width: Width, entries: usize, header: usize) -> Result<usize, Refusal> {
-    answer(ffi::build_length(width, entries, header))
+pub fn build_length_at(layout: Layout, count: usize, header: usize) -> Result<usize, Refusal> {
+    answer(ffi::build_length(layout, count, header))
 }

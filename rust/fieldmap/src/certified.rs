@@ -3,7 +3,7 @@
 use core::ops::RangeBounds;
 
 use crate::archive::PASSED;
-use crate::{Archive, Entry, Matched, Packing, Refusal, Walked, Width};
+use crate::{Archive, Entry, Layout, Matched, Packing, Refusal, Walked, Width};
 
 /// A certified archive: its keys strictly ascend and no node is hollow.
 ///
@@ -43,36 +43,50 @@ impl<'a> Certified<'a> {
     /// # Ok::<(), Refusal>(())
     /// ```
     pub fn certify(bytes: &'a [u8]) -> Result<Self, Refusal> {
-        Self::certify_at(Width::default(), bytes)
+        Self::certify_at(Layout::COMMON, bytes)
     }
 
-    /// The archive of a width, if [`certify_at`](crate::certify_at()) accepts it. Its readers read by that width.
+    /// The archive of a layout, if [`certify_at`](crate::certify_at()) accepts it. Its readers read by that layout.
     ///
     /// # Errors
     ///
     /// The first fault of 1 to 9.
     ///
     /// ```
-    /// use fieldmap::{Certified, Width};
+    /// use fieldmap::{Certified, Layout, Width};
     ///
-    /// let mut bytes = [0; 112];
-    /// fieldmap::build_at(Width::Bits64, &mut bytes, 0, &[1, 5, 9], &[10, 50, 90])?;
-    /// let certified = Certified::certify_at(Width::Bits64, &bytes)?;
+    /// let (mut bytes, layout) = ([0; 272], Layout::new(Width::Bits64, 15)?);
+    /// fieldmap::build_at(layout, &mut bytes, 0, &[1, 5, 9], &[10, 50, 90])?;
+    /// let certified = Certified::certify_at(layout, &bytes)?;
     /// assert_eq!(certified.get(5).map(|entry| entry.value), Some(50));
     /// # Ok::<(), fieldmap::Refusal>(())
     /// ```
-    pub fn certify_at(width: Width, bytes: &'a [u8]) -> Result<Self, Refusal> {
-        let count = crate::certify_at(width, bytes)?;
-        let archive = Archive::passed(width, bytes, count);
+    pub fn certify_at(layout: Layout, bytes: &'a [u8]) -> Result<Self, Refusal> {
+        let count = crate::certify_at(layout, bytes)?;
+        let archive = Archive::passed(layout, bytes, count);
         Ok(Self { archive })
     }
 
-    /// The width that it was certified by, and is read by.
+    /// The layout that it was certified by, and is read by.
+    ///
+    /// ```
+    /// use fieldmap::{Certified, Layout, Width};
+    ///
+    /// let layout = Layout::new(Width::Bits16, 15)?;
+    /// assert_eq!(Certified::certify_at(layout, &[1, 0, 0, 0])?.layout(), layout);
+    /// # Ok::<(), fieldmap::Refusal>(())
+    /// ```
+    #[must_use]
+    pub fn layout(self) -> Layout {
+        self.archive.layout()
+    }
+
+    /// The width of its [`layout`](Self::layout).
     ///
     /// ```
     /// use fieldmap::{Certified, Width};
     ///
-    /// assert_eq!(Certified::certify_at(Width::Bits16, &[1, 0, 0, 0])?.width(), Width::Bits16);
+    /// assert_eq!(Certified::certify_at(Width::Bits16.into(), &[1, 0, 0, 0])?.width(), Width::Bits16);
     /// # Ok::<(), fieldmap::Refusal>(())
     /// ```
     #[must_use]
@@ -248,7 +262,7 @@ impl<'a> Certified<'a> {
         keys: &mut [u64],
         values: &mut [u64],
     ) -> Matched {
-        crate::range_at(self.width(), self.bytes(), bounds, keys, values).expect(PASSED)
+        crate::range_at(self.layout(), self.bytes(), bounds, keys, values).expect(PASSED)
     }
 
     /// The points of one eye of one examination with x in a range of degrees, the keys being of the named packing. [`column`](crate::column())
@@ -279,7 +293,7 @@ impl<'a> Certified<'a> {
         keys: &mut [u64],
         values: &mut [u64],
     ) -> Result<Matched, Refusal> {
-        let (width, bytes) = (self.width(), self.bytes());
-        crate::column_at(width, bytes, packing, examination, eye, x, keys, values)
+        let (layout, bytes) = (self.layout(), self.bytes());
+        crate::column_at(layout, bytes, packing, examination, eye, x, keys, values)
     }
 }

@@ -5,7 +5,7 @@ use crate::{Archive, Certified, Refusal};
 impl<'a> TryFrom<&'a [u8]> for Archive<'a> {
     type Error = Refusal;
 
-    /// As [`Archive::check`], at 32 bits.
+    /// As [`Archive::check`], by [`Layout::COMMON`](crate::Layout::COMMON).
     ///
     /// ```
     /// let bytes: &[u8] = &[1, 0, 0, 0, 0, 0, 0, 0];
@@ -34,7 +34,7 @@ impl AsRef<[u8]> for Archive<'_> {
 impl<'a> TryFrom<&'a [u8]> for Certified<'a> {
     type Error = Refusal;
 
-    /// As [`Certified::certify`], at 32 bits.
+    /// As [`Certified::certify`], by [`Layout::COMMON`](crate::Layout::COMMON).
     ///
     /// ```
     /// let bytes: &[u8] = &[1, 0, 0, 0, 0, 0, 0, 0];

@@ -10,12 +10,13 @@ pub use archives::{
 };
 
 extern "C" {
-    fn fieldmap_check(width: u8, archive: *const u8, archive_len: usize) -> i64;
+    fn fieldmap_check(width: u8, entries: usize, archive: *const u8, archive_len: usize) -> i64;
 
-    fn fieldmap_certify(width: u8, archive: *const u8, archive_len: usize) -> i64;
+    fn fieldmap_certify(width: u8, entries: usize, archive: *const u8, archive_len: usize) -> i64;
 
     fn fieldmap_lookup(
         width: u8,
+        entries: usize,
         archive: *const u8,
         archive_len: usize,
         key: u64,
@@ -25,6 +26,7 @@ extern "C" {
 
     fn fieldmap_lookup_bytes(
         width: u8,
+        entries: usize,
         archive: *const u8,
         archive_len: usize,
         key: u64,
@@ -33,6 +35,7 @@ extern "C" {
 
     fn fieldmap_lookup_many(
         width: u8,
+        entries: usize,
         archive: *const u8,
         archive_len: usize,
         keys: *const u64,
@@ -43,6 +46,7 @@ extern "C" {
 
     fn fieldmap_walk(
         width: u8,
+        entries: usize,
         archive: *const u8,
         archive_len: usize,
         keys: *mut u64,
@@ -54,6 +58,7 @@ extern "C" {
 
     fn fieldmap_range(
         width: u8,
+        entries: usize,
         archive: *const u8,
         archive_len: usize,
         lower_kind: u8,
@@ -69,6 +74,7 @@ extern "C" {
 
     fn fieldmap_column(
         width: u8,
+        entries: usize,
         archive: *const u8,
         archive_len: usize,
         packing: u8,
@@ -85,6 +91,7 @@ extern "C" {
 
     fn fieldmap_build(
         width: u8,
+        entries: usize,
         out: *mut u8,
         out_len: usize,
         header: usize,
@@ -94,7 +101,7 @@ extern "C" {
         values_len: usize,
     ) -> i64;
 
-    fn fieldmap_build_length(width: u8, entries: usize, header: usize) -> i64;
+    fn fieldmap_build_length(width: u8, entries: usize, count: usize, header: usize) -> i64;
 
     fn fieldmap_signed_offset(from: u64, to: u64, offset: *mut i64) -> i64;
 

@@ -1,6 +1,6 @@
 //! The archived field map: rkyv 0.8.18's B-tree map with 64-bit keys and values, as proved code behind safe calls.
 //!
-//! Every call takes any bytes, lists, positions and lengths, and answers or gives one of 18 [refusals](Refusal). A refused call leaves the
+//! Every call takes any bytes, lists, positions and lengths, and answers or gives one of 19 [refusals](Refusal). A refused call leaves the
 //! lists that it was lent as they were. The calls are those of the static library `libexports.a`, each proved equal to its definition; what
 //! this crate adds is the passing of slices and the taking apart of answers.
 //!
@@ -30,18 +30,20 @@
 //! says which, so each call that reads or writes fields takes a [`Packing`]. On new keys a [column query](column()) gives exactly the points
 //! with x from a to b. The others take keys as numbers, and for the same numbers the same bytes are built, whatever they stand for.
 //!
-//! # Three widths
+//! # Layouts
 //!
-//! Offsets and counts of an archive have 32 bits where rkyv is built at its defaults, else 16 or 64. Nothing stored says which, so the caller
-//! names it: each call is for archives of 32 bits, and the one with `_at` behind its name takes a [`Width`] first. [`Archive`] and
-//! [`Certified`] keep the width that they were opened by. [`Width`] says what becomes of an archive that is read by another one.
+//! Offsets and counts of an archive have 32 bits where rkyv is built at its defaults, else 16 or 64, and its nodes have 5 entries by default, or
+//! 3 to 15. Nothing stored says which, so the caller names both: each call is for archives of 32 bits and 5 entries a node, and the one with
+//! `_at` behind its name takes a [`Layout`] first. [`Archive`] and [`Certified`] keep the layout that they were opened by. [`Width`] and
+//! [`Layout`] say what becomes of an archive that is read by another one.
 //!
 //! ```
-//! use fieldmap::{Certified, Width};
+//! use fieldmap::{Certified, Layout, Width};
 //!
-//! let mut out = vec![0; fieldmap::build_length_at(Width::Bits64, 3, 0)?];
-//! fieldmap::build_at(Width::Bits64, &mut out, 0, &[1, 5, 9], &[10, 50, 90])?;
-//! let archive = Certified::certify_at(Width::Bits64, &out)?;
+//! let layout = Layout::new(Width::Bits64, 15)?;
+//! let mut out = vec![0; fieldmap::build_length_at(layout, 3, 0)?];
+//! fieldmap::build_at(layout, &mut out, 0, &[1, 5, 9], &[10, 50, 90])?;
+//! let archive = Certified::certify_at(layout, &out)?;
 //! assert_eq!(archive.get(5).map(|entry| entry.value), Some(50));
 //! # Ok::<(), fieldmap::Refusal>(())
 //! ```
@@ -72,6 +74,7 @@ mod conversions;
 #[allow(unsafe_code)]
 mod ffi;
 mod key;
+mod layout;
 #[cfg(feature = "alloc")]
 mod owned;
 mod packing;
@@ -86,6 +89,7 @@ pub use archive::Archive;
 pub use builder::{build, build_at, build_length, build_length_at};
 pub use certified::Certified;
 pub use key::Key;
+pub use layout::Layout;
 #[cfg(feature = "alloc")]
 pub use owned::{archive_of, archive_of_at};
 pub use packing::Packing;
@@ -105,8 +109,11 @@ pub const LONGEST_ARCHIVE: usize = 1_048_576;
 /// The most nodes below each other.
 pub const MOST_NESTED: usize = 14;
 
-/// The most entries of a leaf.
-pub const MOST_IN_LEAF: usize = 5;
+/// The fewest entries a node that a [`Layout`] can have.
+pub const FEWEST_IN_NODE: usize = 3;
+
+/// The most entries a node that a [`Layout`] can have.
+pub const MOST_IN_NODE: usize = 15;
 
 /// The most entries that [`build`] takes.
 pub const MOST_ENTRIES: usize = 40_000;

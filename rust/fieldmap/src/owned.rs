@@ -5,7 +5,7 @@ use alloc::vec;
 use alloc::vec::Vec;
 use core::ops::RangeBounds;
 
-use crate::{Archive, Certified, Refusal, Width};
+use crate::{Archive, Certified, Layout, Refusal};
 
 /// The archive of a map's entries.
 ///
@@ -22,29 +22,30 @@ use crate::{Archive, Certified, Refusal, Width};
 /// # Ok::<(), fieldmap::Refusal>(())
 /// ```
 pub fn archive_of(map: &BTreeMap<u64, u64>) -> Result<Vec<u8>, Refusal> {
-    archive_of_at(Width::default(), map)
+    archive_of_at(Layout::COMMON, map)
 }
 
-/// As [`archive_of`], an archive of a width.
+/// As [`archive_of`], an archive of a layout.
 ///
 /// # Errors
 ///
-/// 11, where the map has more than 40,000 entries, then 16, where at [`Width::Bits16`] it has more than 2,970.
+/// 11, where the map has more than 40,000 entries, then 16, as [`build_at`](crate::build_at()).
 ///
 /// ```
 /// use std::collections::BTreeMap;
-/// use fieldmap::{archive_of_at, Certified, Width};
+/// use fieldmap::{archive_of_at, Certified, Layout, Width};
 ///
 /// let map = BTreeMap::from([(1, 10), (5, 50), (9, 90)]);
-/// let bytes = archive_of_at(Width::Bits16, &map)?;
-/// assert_eq!(Certified::certify_at(Width::Bits16, &bytes)?.to_map(), map);
+/// let layout = Layout::new(Width::Bits16, 3)?;
+/// let bytes = archive_of_at(layout, &map)?;
+/// assert_eq!(Certified::certify_at(layout, &bytes)?.to_map(), map);
 /// # Ok::<(), fieldmap::Refusal>(())
 /// ```
-pub fn archive_of_at(width: Width, map: &BTreeMap<u64, u64>) -> Result<Vec<u8>, Refusal> {
-    let mut out = vec![0; crate::build_length_at(width, map.len(), 0)?];
+pub fn archive_of_at(layout: Layout, map: &BTreeMap<u64, u64>) -> Result<Vec<u8>, Refusal> {
+    let mut out = vec![0; crate::build_length_at(layout, map.len(), 0)?];
     let keys: Vec<u64> = map.keys().copied().collect();
     let values: Vec<u64> = map.values().copied().collect();
-    let end = crate::build_at(width, &mut out, 0, &keys, &values)?;
+    let end = crate::build_at(layout, &mut out, 0, &keys, &values)?;
     out.truncate(end);
     Ok(out)
 }

@@ -5,7 +5,7 @@ use core::ops::{Bound, RangeBounds};
 
 use crate::ffi;
 use crate::refusal::{answer, Refusal};
-use crate::{Packing, Width};
+use crate::{Layout, Packing};
 
 /// What a range answers.
 #[must_use]
@@ -40,26 +40,27 @@ pub fn range(
     keys: &mut [u64],
     values: &mut [u64],
 ) -> Result<Matched, Refusal> {
-    range_at(Width::default(), archive, bounds, keys, values)
+    range_at(Layout::COMMON, archive, bounds, keys, values)
 }
 
-/// As [`range`], of an archive of a width.
+/// As [`range`], of an archive of a layout.
 ///
 /// # Errors
 ///
 /// The first fault of 1 to 9.
 ///
 /// ```
-/// use fieldmap::{range_at, Width};
+/// use fieldmap::{range_at, Layout, Width};
 ///
-/// let (mut archive, mut keys, mut values) = ([0; 100], [0; 2], [0; 2]);
-/// fieldmap::build_at(Width::Bits16, &mut archive, 0, &[1, 5, 9], &[10, 50, 90])?;
-/// let matched = range_at(Width::Bits16, &archive, 2..=9, &mut keys, &mut values)?;
+/// let layout = Layout::new(Width::Bits16, 3)?;
+/// let (mut archive, mut keys, mut values) = ([0; 68], [0; 2], [0; 2]);
+/// fieldmap::build_at(layout, &mut archive, 0, &[1, 5, 9], &[10, 50, 90])?;
+/// let matched = range_at(layout, &archive, 2..=9, &mut keys, &mut values)?;
 /// assert_eq!((matched.matching, keys), (2, [5, 9]));
 /// # Ok::<(), fieldmap::Refusal>(())
 /// ```
 pub fn range_at(
-    width: Width,
+    layout: Layout,
     archive: &[u8],
     bounds: impl RangeBounds<u64>,
     keys: &mut [u64],
@@ -68,7 +69,7 @@ pub fn range_at(
     let lower = passed(bounds.start_bound());
     let upper = passed(bounds.end_bound());
     let mut matching = 0;
-    let code = ffi::range(width, archive, lower, upper, keys, values, &mut matching);
+    let code = ffi::range(layout, archive, lower, upper, keys, values, &mut matching);
     matched(code, matching)
 }
 
@@ -126,29 +127,30 @@ pub fn column(
     keys: &mut [u64],
     values: &mut [u64],
 ) -> Result<Matched, Refusal> {
-    let width = Width::default();
-    column_at(width, archive, packing, examination, eye, x, keys, values)
+    let layout = Layout::COMMON;
+    column_at(layout, archive, packing, examination, eye, x, keys, values)
 }
 
-/// As [`column`](column()), of an archive of a width.
+/// As [`column`](column()), of an archive of a layout.
 ///
 /// # Errors
 ///
 /// The first fault of 1 to 9, then 18, where the examination or the eye does not fit its field.
 ///
 /// ```
-/// use fieldmap::{column_at, Key, Packing::Plus128, Width::Bits64};
+/// use fieldmap::{column_at, Key, Layout, Packing::Plus128, Width::Bits64};
 ///
+/// let layout = Layout::new(Bits64, 15)?;
 /// let key = Key { examination: 1, eye: Key::LEFT, x: -15, y: 3, presentation: 0 };
-/// let (mut archive, mut keys, mut values) = ([0; 112], [0; 1], [0; 1]);
-/// fieldmap::build_at(Bits64, &mut archive, 0, &[key.pack(Plus128)?], &[9])?;
-/// let matched = column_at(Bits64, &archive, Plus128, 1, Key::LEFT, -20..=20, &mut keys, &mut values)?;
+/// let (mut archive, mut keys, mut values) = ([0; 272], [0; 1], [0; 1]);
+/// fieldmap::build_at(layout, &mut archive, 0, &[key.pack(Plus128)?], &[9])?;
+/// let matched = column_at(layout, &archive, Plus128, 1, Key::LEFT, -20..=20, &mut keys, &mut values)?;
 /// assert_eq!((matched.matching, values), (1, [9]));
 /// # Ok::<(), fieldmap::Refusal>(())
 /// ```
 #[allow(clippy::too_many_arguments)]
 pub fn column_at(
-    width: Width,
+    layout: Layout,
     archive: &[u8],
     packing: Packing,
     examination: u32,
@@ -160,7 +162,7 @@ pub fn column_at(
     let ends = ends(packing, x.start_bound(), x.end_bound());
     let mut matching = 0;
     let code = ffi::column(
-        width,
+        layout,
         archive,
         (packing as u8, examination, eye),
         ends,

@@ -2,7 +2,7 @@
 
 use crate::ffi;
 use crate::refusal::{answer, Refusal};
-use crate::Width;
+use crate::Layout;
 
 /// An entry, and the position in the archive of its value's first byte.
 #[derive(Clone, Copy, Debug, Default, PartialEq, Eq, Hash)]
@@ -36,23 +36,23 @@ pub struct Walked {
 /// assert_eq!(fieldmap::check(&[0; 7]), Err(fieldmap::Refusal::InvalidSubtreePointer));
 /// ```
 pub fn check(archive: &[u8]) -> Result<usize, Refusal> {
-    check_at(Width::default(), archive)
+    check_at(Layout::COMMON, archive)
 }
 
-/// As [`check`], of an archive of a width.
+/// As [`check`], of an archive of a layout.
 ///
 /// # Errors
 ///
 /// The first fault of 1 to 7.
 ///
 /// ```
-/// use fieldmap::{check_at, Refusal, Width};
+/// use fieldmap::{check_at, Layout, Refusal, Width};
 ///
-/// assert_eq!(check_at(Width::Bits16, &[1, 0, 0, 0]), Ok(0));
-/// assert_eq!(check_at(Width::Bits32, &[1, 0, 0, 0]), Err(Refusal::InvalidSubtreePointer));
+/// assert_eq!(check_at(Width::Bits16.into(), &[1, 0, 0, 0]), Ok(0));
+/// assert_eq!(check_at(Layout::COMMON, &[1, 0, 0, 0]), Err(Refusal::InvalidSubtreePointer));
 /// ```
-pub fn check_at(width: Width, archive: &[u8]) -> Result<usize, Refusal> {
-    answer(ffi::check(width, archive))
+pub fn check_at(layout: Layout, archive: &[u8]) -> Result<usize, Refusal> {
+    answer(ffi::check(layout, archive))
 }
 
 /// The recorded count of an archive that is accepted, whose keys strictly ascend, and that has no hollow node.
@@ -75,25 +75,26 @@ pub fn check_at(width: Width, archive: &[u8]) -> Result<usize, Refusal> {
 /// # Ok::<(), Refusal>(())
 /// ```
 pub fn certify(archive: &[u8]) -> Result<usize, Refusal> {
-    certify_at(Width::default(), archive)
+    certify_at(Layout::COMMON, archive)
 }
 
-/// As [`certify`], of an archive of a width.
+/// As [`certify`], of an archive of a layout.
 ///
 /// # Errors
 ///
 /// The first fault of 1 to 9.
 ///
 /// ```
-/// use fieldmap::{certify_at, Width};
+/// use fieldmap::{certify_at, Layout, Width};
 ///
-/// let mut archive = [0; 100];
-/// fieldmap::build_at(Width::Bits16, &mut archive, 0, &[1, 5, 9], &[10, 50, 90])?;
-/// assert_eq!(certify_at(Width::Bits16, &archive), Ok(3));
+/// let layout = Layout::new(Width::Bits16, 3)?;
+/// let mut archive = [0; 68];
+/// fieldmap::build_at(layout, &mut archive, 0, &[1, 5, 9], &[10, 50, 90])?;
+/// assert_eq!(certify_at(layout, &archive), Ok(3));
 /// # Ok::<(), fieldmap::Refusal>(())
 /// ```
-pub fn certify_at(width: Width, archive: &[u8]) -> Result<usize, Refusal> {
-    answer(ffi::certify(width, archive))
+pub fn certify_at(layout: Layout, archive: &[u8]) -> Result<usize, Refusal> {
+    answer(ffi::certify(layout, archive))
 }
 
 /// Looks up a key in an accepted archive.
@@ -114,27 +115,28 @@ pub fn certify_at(width: Width, archive: &[u8]) -> Result<usize, Refusal> {
 /// # Ok::<(), fieldmap::Refusal>(())
 /// ```
 pub fn lookup(archive: &[u8], key: u64) -> Result<Option<Entry>, Refusal> {
-    lookup_at(Width::default(), archive, key)
+    lookup_at(Layout::COMMON, archive, key)
 }
 
-/// As [`lookup`], in an archive of a width.
+/// As [`lookup`], in an archive of a layout.
 ///
 /// # Errors
 ///
 /// The first fault of 1 to 7.
 ///
 /// ```
-/// use fieldmap::{lookup_at, Width};
+/// use fieldmap::{lookup_at, Layout, Width};
 ///
-/// let mut archive = [0; 112];
-/// fieldmap::build_at(Width::Bits64, &mut archive, 0, &[7], &[9])?;
-/// let found = lookup_at(Width::Bits64, &archive, 7)?;
+/// let layout = Layout::new(Width::Bits64, 15)?;
+/// let mut archive = [0; 272];
+/// fieldmap::build_at(layout, &mut archive, 0, &[7], &[9])?;
+/// let found = lookup_at(layout, &archive, 7)?;
 /// assert_eq!(found.map(|entry| entry.value), Some(9));
 /// # Ok::<(), fieldmap::Refusal>(())
 /// ```
-pub fn lookup_at(width: Width, archive: &[u8], key: u64) -> Result<Option<Entry>, Refusal> {
+pub fn lookup_at(layout: Layout, archive: &[u8], key: u64) -> Result<Option<Entry>, Refusal> {
     let (mut value, mut position) = (0, 0);
-    let code = ffi::lookup(width, archive, key, &mut value, &mut position);
+    let code = ffi::lookup(layout, archive, key, &mut value, &mut position);
     let found = answer(code)?;
     let position = position as usize;
     Ok((found == 1).then_some(Entry {
@@ -158,23 +160,24 @@ pub fn lookup_at(width: Width, archive: &[u8], key: u64) -> Result<Option<Entry>
 /// ```
 #[must_use]
 pub fn lookup_bytes(archive: &[u8], key: u64) -> &[u8] {
-    lookup_bytes_at(Width::default(), archive, key)
+    lookup_bytes_at(Layout::COMMON, archive, key)
 }
 
-/// As [`lookup_bytes`], of an archive of a width.
+/// As [`lookup_bytes`], of an archive of a layout.
 ///
 /// ```
-/// use fieldmap::{lookup_bytes_at, Width};
+/// use fieldmap::{lookup_bytes_at, Layout, Width};
 ///
-/// let mut archive = [0; 112];
-/// fieldmap::build_at(Width::Bits64, &mut archive, 0, &[7], &[9])?;
-/// assert_eq!(lookup_bytes_at(Width::Bits64, &archive, 7), 9_u64.to_le_bytes());
+/// let layout = Layout::new(Width::Bits64, 15)?;
+/// let mut archive = [0; 272];
+/// fieldmap::build_at(layout, &mut archive, 0, &[7], &[9])?;
+/// assert_eq!(lookup_bytes_at(layout, &archive, 7), 9_u64.to_le_bytes());
 /// # Ok::<(), fieldmap::Refusal>(())
 /// ```
 #[must_use]
-pub fn lookup_bytes_at(width: Width, archive: &[u8], key: u64) -> &[u8] {
+pub fn lookup_bytes_at(layout: Layout, archive: &[u8], key: u64) -> &[u8] {
     let mut start = 0;
-    match answer(ffi::lookup_bytes(width, archive, key, &mut start)) {
+    match answer(ffi::lookup_bytes(layout, archive, key, &mut start)) {
         Ok(length) => &archive[start as usize..][..length],
         Err(_) => &archive[..0],
     }
@@ -199,31 +202,32 @@ pub fn lookup_bytes_at(width: Width, archive: &[u8], key: u64) -> &[u8] {
 /// # Ok::<(), fieldmap::Refusal>(())
 /// ```
 pub fn lookup_many(archive: &[u8], keys: &[u64], values: &mut [u64]) -> Result<usize, Refusal> {
-    lookup_many_at(Width::default(), archive, keys, values)
+    lookup_many_at(Layout::COMMON, archive, keys, values)
 }
 
-/// As [`lookup_many`], in an archive of a width.
+/// As [`lookup_many`], in an archive of a layout.
 ///
 /// # Errors
 ///
 /// The first fault of 1 to 7.
 ///
 /// ```
-/// use fieldmap::{lookup_many_at, Width};
+/// use fieldmap::{lookup_many_at, Layout, Width};
 ///
-/// let (mut archive, mut values) = ([0; 112], [0; 3]);
-/// fieldmap::build_at(Width::Bits64, &mut archive, 0, &[1, 5, 9], &[10, 50, 90])?;
-/// assert_eq!(lookup_many_at(Width::Bits64, &archive, &[9, 2, 1], &mut values), Ok(2));
+/// let layout = Layout::new(Width::Bits64, 15)?;
+/// let (mut archive, mut values) = ([0; 272], [0; 3]);
+/// fieldmap::build_at(layout, &mut archive, 0, &[1, 5, 9], &[10, 50, 90])?;
+/// assert_eq!(lookup_many_at(layout, &archive, &[9, 2, 1], &mut values), Ok(2));
 /// assert_eq!(values, [90, 0, 10]);
 /// # Ok::<(), fieldmap::Refusal>(())
 /// ```
 pub fn lookup_many_at(
-    width: Width,
+    layout: Layout,
     archive: &[u8],
     keys: &[u64],
     values: &mut [u64],
 ) -> Result<usize, Refusal> {
-    answer(ffi::lookup_many(width, archive, keys, values))
+    answer(ffi::lookup_many(layout, archive, keys, values))
 }
 
 /// Writes keys and values of an accepted archive in the order of the walk until the shorter list is full. Places not written keep their
@@ -243,32 +247,33 @@ pub fn lookup_many_at(
 /// # Ok::<(), fieldmap::Refusal>(())
 /// ```
 pub fn walk(archive: &[u8], keys: &mut [u64], values: &mut [u64]) -> Result<Walked, Refusal> {
-    walk_at(Width::default(), archive, keys, values)
+    walk_at(Layout::COMMON, archive, keys, values)
 }
 
-/// As [`walk`], of an archive of a width.
+/// As [`walk`], of an archive of a layout.
 ///
 /// # Errors
 ///
 /// The first fault of 1 to 7.
 ///
 /// ```
-/// use fieldmap::{walk_at, Width};
+/// use fieldmap::{walk_at, Layout, Width};
 ///
-/// let (mut archive, mut keys, mut values) = ([0; 100], [0; 2], [0; 2]);
-/// fieldmap::build_at(Width::Bits16, &mut archive, 0, &[1, 5, 9], &[10, 50, 90])?;
-/// let walked = walk_at(Width::Bits16, &archive, &mut keys, &mut values)?;
+/// let layout = Layout::new(Width::Bits16, 3)?;
+/// let (mut archive, mut keys, mut values) = ([0; 68], [0; 2], [0; 2]);
+/// fieldmap::build_at(layout, &mut archive, 0, &[1, 5, 9], &[10, 50, 90])?;
+/// let walked = walk_at(layout, &archive, &mut keys, &mut values)?;
 /// assert_eq!((walked.written, walked.count, keys), (2, 3, [1, 5]));
 /// # Ok::<(), fieldmap::Refusal>(())
 /// ```
 pub fn walk_at(
-    width: Width,
+    layout: Layout,
     archive: &[u8],
     keys: &mut [u64],
     values: &mut [u64],
 ) -> Result<Walked, Refusal> {
     let mut count = 0;
-    let written = answer(ffi::walk(width, archive, keys, values, &mut count))?;
+    let written = answer(ffi::walk(layout, archive, keys, values, &mut count))?;
     let count = count as usize;
     Ok(Walked { written, count })
 }

@@ -2,7 +2,8 @@
 
 use core::fmt;
 
-/// Why a call is refused, in checking order: where several hold, a call gives the first that it meets.
+/// Why a call is refused, in checking order, but for 24, which comes before every other: where several hold, a call gives the first that it
+/// meets.
 #[derive(Clone, Copy, Debug, PartialEq, Eq, PartialOrd, Ord, Hash)]
 #[repr(u8)]
 pub enum Refusal {
@@ -16,7 +17,7 @@ pub enum Refusal {
     InvalidKind,
     /// 5: more than 14 nodes are nested.
     ExceededMaximumSubtreeDepth,
-    /// 6: a leaf's count is above 5.
+    /// 6: a leaf's count is above the layout's entries a node.
     InvalidLength,
     /// 7: the entries are not as many as the recorded count.
     EntriesLengthMismatch,
@@ -42,11 +43,13 @@ pub enum Refusal {
     InvalidAlignment,
     /// 18: an examination, an eye or a presentation does not fit its field of the key.
     KeyFieldOverflow,
+    /// 24: the entries a node are not 3 to 15. [`Layout::new`](crate::Layout::new) gives it, and a value of that type is never refused by it.
+    EntriesOutOfRange = 24,
 }
 
 impl Refusal {
     /// All refusals, in the order of their numbers.
-    pub const ALL: [Refusal; 18] = [
+    pub const ALL: [Refusal; 19] = [
         Refusal::ArchiveTooLong,
         Refusal::InvalidSubtreePointer,
         Refusal::UnalignedPointer,
@@ -65,9 +68,10 @@ impl Refusal {
         Refusal::OffsetOverflow,
         Refusal::InvalidAlignment,
         Refusal::KeyFieldOverflow,
+        Refusal::EntriesOutOfRange,
     ];
 
-    /// The number, 1 to 18.
+    /// The number, 1 to 18 or 24.
     ///
     /// ```
     /// assert_eq!(fieldmap::Refusal::HollowNode.number(), 8);
@@ -90,7 +94,7 @@ impl Refusal {
             Refusal::UnalignedPointer => "the record or a node is not on its alignment",
             Refusal::InvalidKind => "a node is neither a leaf nor an inner node",
             Refusal::ExceededMaximumSubtreeDepth => "more than 14 nodes are nested",
-            Refusal::InvalidLength => "a leaf counts more than 5 entries",
+            Refusal::InvalidLength => "a leaf counts more entries than a node may have",
             Refusal::EntriesLengthMismatch => "the entries are not as many as recorded",
             Refusal::HollowNode => "a leaf is empty, or an inner node has no first child",
             Refusal::KeysNotAscending => "a key is not above the one before",
@@ -107,6 +111,7 @@ impl Refusal {
             Refusal::KeyFieldOverflow => {
                 "an examination, an eye or a presentation does not fit its field"
             }
+            Refusal::EntriesOutOfRange => "the entries a node are not 3 to 15",
         }
     }
 }
@@ -121,7 +126,7 @@ impl fmt::Display for Refusal {
 impl core::error::Error for Refusal {}
 
 impl From<Refusal> for u8 {
-    /// The number, 1 to 18.
+    /// The number, 1 to 18 or 24.
     fn from(refusal: Refusal) -> Self {
         refusal.number()
     }
@@ -156,11 +161,13 @@ impl fmt::Display for NoSuchRefusal {
 
 impl core::error::Error for NoSuchRefusal {}
 
-/// An answer as the library codes it: a number from 0 on, or minus the refusal's number, -1 to -18.
+/// An answer as the library codes it: a number from 0 on, or minus the refusal's number, -1 to -18 or -24.
 pub(crate) fn answer(code: i64) -> Result<usize, Refusal> {
-    if code < 0 {
-        Err(Refusal::ALL[(-1 - code) as usize])
-    } else {
-        Ok(code as usize)
+    if code >= 0 {
+        return Ok(code as usize);
     }
+    let refusal = Refusal::ALL
+        .into_iter()
+        .find(|why| -i64::from(why.number()) == code);
+    Err(refusal.expect("the library answers by a refusal's number"))
 }

@@ -3,8 +3,8 @@
 /// How many bits an archive's offsets and counts have: rkyv's `pointer_width_16`, its default of 32, or its `pointer_width_64`. An archive does
 /// not say which it is, so the caller names it.
 ///
-/// A call without a width reads and writes archives of 32 bits, which is the default; the call of the same name and `_at` takes the width first.
-/// As a number, by `as u8`, a width is what `include/fieldmap.h` has for it.
+/// A width is a part of a [`Layout`](crate::Layout), which has 32 bits by default. As a number, by `as u8`, a width is what `include/fieldmap.h`
+/// has for it. With five entries a node:
 ///
 /// | | `Bits16` | `Bits32` | `Bits64` |
 /// |---|---|---|---|
@@ -21,19 +21,19 @@
 /// ```
 /// use fieldmap::{Refusal, Width};
 ///
-/// let mut archive = [0; 112];
-/// assert_eq!(fieldmap::build_at(Width::Bits64, &mut archive, 0, &[1, 5, 9], &[10, 50, 90]), Ok(112));
-/// assert_eq!(fieldmap::certify_at(Width::Bits64, &archive), Ok(3));
-/// assert_eq!(fieldmap::certify_at(Width::Bits32, &archive), Ok(0));
+/// let (mut archive, wide) = ([0; 112], Width::Bits64.into());
+/// assert_eq!(fieldmap::build_at(wide, &mut archive, 0, &[1, 5, 9], &[10, 50, 90]), Ok(112));
+/// assert_eq!(fieldmap::certify_at(wide, &archive), Ok(3));
+/// assert_eq!(fieldmap::certify(&archive), Ok(0));
 ///
 /// assert_eq!(fieldmap::build(&mut archive, 0, &[1, 5, 9], &[10, 50, 90]), Ok(104));
-/// assert_eq!(fieldmap::certify_at(Width::Bits64, &archive[..104]), Err(Refusal::InvalidSubtreePointer));
+/// assert_eq!(fieldmap::certify_at(wide, &archive[..104]), Err(Refusal::InvalidSubtreePointer));
 /// # assert_eq!(Width::default(), Width::Bits32);
 /// ```
 #[derive(Clone, Copy, Debug, Default, PartialEq, Eq, Hash)]
 #[repr(u8)]
 pub enum Width {
-    /// 16 bits. [`build_at`](crate::build_at()) takes up to 2,970 entries.
+    /// 16 bits. With five entries a node [`build_at`](crate::build_at()) takes up to 2,970 entries.
     Bits16 = 16,
     /// 32 bits, as rkyv has at its defaults.
     #[default]

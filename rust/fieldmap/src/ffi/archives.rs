@@ -1,26 +1,47 @@
-//! A safe function over each call that takes a width.
+//! A safe function over each call that takes a layout.
 
 use super::{
     fieldmap_build, fieldmap_build_length, fieldmap_certify, fieldmap_check, fieldmap_column,
     fieldmap_lookup, fieldmap_lookup_bytes, fieldmap_lookup_many, fieldmap_range, fieldmap_walk,
 };
-use crate::Width;
+use crate::Layout;
 
-pub fn check(width: Width, archive: &[u8]) -> i64 {
+pub fn check(layout: Layout, archive: &[u8]) -> i64 {
     // SAFETY: as `ffi.rs` says.
-    unsafe { fieldmap_check(width as u8, archive.as_ptr(), archive.len()) }
+    unsafe {
+        fieldmap_check(
+            layout.width() as u8,
+            layout.entries(),
+            archive.as_ptr(),
+            archive.len(),
+        )
+    }
 }
 
-pub fn certify(width: Width, archive: &[u8]) -> i64 {
+pub fn certify(layout: Layout, archive: &[u8]) -> i64 {
     // SAFETY: as `ffi.rs` says.
-    unsafe { fieldmap_certify(width as u8, archive.as_ptr(), archive.len()) }
+    unsafe {
+        fieldmap_certify(
+            layout.width() as u8,
+            layout.entries(),
+            archive.as_ptr(),
+            archive.len(),
+        )
+    }
 }
 
-pub fn lookup(width: Width, archive: &[u8], key: u64, value: &mut u64, position: &mut u64) -> i64 {
+pub fn lookup(
+    layout: Layout,
+    archive: &[u8],
+    key: u64,
+    value: &mut u64,
+    position: &mut u64,
+) -> i64 {
     // SAFETY: as `ffi.rs` says.
     unsafe {
         fieldmap_lookup(
-            width as u8,
+            layout.width() as u8,
+            layout.entries(),
             archive.as_ptr(),
             archive.len(),
             key,
@@ -30,16 +51,26 @@ pub fn lookup(width: Width, archive: &[u8], key: u64, value: &mut u64, position:
     }
 }
 
-pub fn lookup_bytes(width: Width, archive: &[u8], key: u64, start: &mut u64) -> i64 {
+pub fn lookup_bytes(layout: Layout, archive: &[u8], key: u64, start: &mut u64) -> i64 {
     // SAFETY: as `ffi.rs` says.
-    unsafe { fieldmap_lookup_bytes(width as u8, archive.as_ptr(), archive.len(), key, start) }
+    unsafe {
+        fieldmap_lookup_bytes(
+            layout.width() as u8,
+            layout.entries(),
+            archive.as_ptr(),
+            archive.len(),
+            key,
+            start,
+        )
+    }
 }
 
-pub fn lookup_many(width: Width, archive: &[u8], keys: &[u64], values: &mut [u64]) -> i64 {
+pub fn lookup_many(layout: Layout, archive: &[u8], keys: &[u64], values: &mut [u64]) -> i64 {
     // SAFETY: as `ffi.rs` says.
     unsafe {
         fieldmap_lookup_many(
-            width as u8,
+            layout.width() as u8,
+            layout.entries(),
             archive.as_ptr(),
             archive.len(),
             keys.as_ptr(),
@@ -51,7 +82,7 @@ pub fn lookup_many(width: Width, archive: &[u8], keys: &[u64], values: &mut [u64
 }
 
 pub fn walk(
-    width: Width,
+    layout: Layout,
     archive: &[u8],
     keys: &mut [u64],
     values: &mut [u64],
@@ -60,7 +91,8 @@ pub fn walk(
     // SAFETY: as `ffi.rs` says.
     unsafe {
         fieldmap_walk(
-            width as u8,
+            layout.width() as u8,
+            layout.entries(),
             archive.as_ptr(),
             archive.len(),
             keys.as_mut_ptr(),
@@ -74,7 +106,7 @@ pub fn walk(
 
 /// A bound passes as its kind and its key.
 pub fn range(
-    width: Width,
+    layout: Layout,
     archive: &[u8],
     (lower_kind, lower): (u8, u64),
     (upper_kind, upper): (u8, u64),
@@ -85,7 +117,8 @@ pub fn range(
     // SAFETY: as `ffi.rs` says.
     unsafe {
         fieldmap_range(
-            width as u8,
+            layout.width() as u8,
+            layout.entries(),
             archive.as_ptr(),
             archive.len(),
             lower_kind,
@@ -103,7 +136,7 @@ pub fn range(
 
 /// The packing, the examination and its eye pass together, and so do the two ends of x.
 pub fn column(
-    width: Width,
+    layout: Layout,
     archive: &[u8],
     (packing, examination, eye): (u8, u32, u8),
     (a, b): (i8, i8),
@@ -114,7 +147,8 @@ pub fn column(
     // SAFETY: as `ffi.rs` says.
     unsafe {
         fieldmap_column(
-            width as u8,
+            layout.width() as u8,
+            layout.entries(),
             archive.as_ptr(),
             archive.len(),
             packing,
@@ -131,11 +165,12 @@ pub fn column(
     }
 }
 
-pub fn build(width: Width, out: &mut [u8], header: usize, keys: &[u64], values: &[u64]) -> i64 {
+pub fn build(layout: Layout, out: &mut [u8], header: usize, keys: &[u64], values: &[u64]) -> i64 {
     // SAFETY: as `ffi.rs` says.
     unsafe {
         fieldmap_build(
-            width as u8,
+            layout.width() as u8,
+            layout.entries(),
             out.as_mut_ptr(),
             out.len(),
             header,
@@ -147,7 +182,7 @@ pub fn build(width: Width, out: &mut [u8], header: usize, keys: &[u64], values: 
     }
 }
 
-pub fn build_length(width: Width, entries: usize, header: usize) -> i64 {
+pub fn build_length(layout: Layout, count: usize, header: usize) -> i64 {
     // SAFETY: no pointer passes.
-    unsafe { fieldmap_build_length(width as u8, entries, header) }
+    unsafe { fieldmap_build_length(layout.width() as u8, layout.entries(), count, header) }
 }

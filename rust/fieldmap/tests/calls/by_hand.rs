@@ -1,25 +1,25 @@
-//! Archives written node by node, at any width.
+//! Archives written node by node, by any layout.
 
-use fieldmap::Width;
+use fieldmap::Layout;
 
 /// Bytes to which nodes are added, each after its children.
 #[derive(Default)]
 pub struct Output {
-    width: Width,
+    layout: Layout,
     pub bytes: Vec<u8>,
 }
 
 impl Output {
-    pub fn at(width: Width) -> Self {
+    pub fn at(layout: Layout) -> Self {
         Self {
-            width,
+            layout,
             bytes: vec![],
         }
     }
 
     /// An offset or a count, of as many bits as the width has.
     fn number(&mut self, number: i64) {
-        let bytes = usize::from(self.width as u8) / 8;
+        let bytes = usize::from(self.layout.width() as u8) / 8;
         self.bytes.extend(&number.to_le_bytes()[..bytes]);
     }
 
@@ -32,10 +32,10 @@ impl Output {
         let position = self.bytes.len();
         self.bytes.extend(u64::from(kind).to_le_bytes());
         let slot = |index: usize| slots.get(index).copied().unwrap_or_default();
-        for index in 0..5 {
+        for index in 0..self.layout.entries() {
             self.bytes.extend(slot(index).0.to_le_bytes());
         }
-        for index in 0..5 {
+        for index in 0..self.layout.entries() {
             self.bytes.extend(slot(index).1.to_le_bytes());
         }
         position
@@ -55,10 +55,11 @@ impl Output {
         self.end(position)
     }
 
-    pub fn inner(&mut self, slots: &[(u64, u64); 5], children: [Option<usize>; 6]) -> usize {
+    /// An inner node with its first children. The others are absent.
+    pub fn inner(&mut self, slots: &[(u64, u64)], children: &[usize]) -> usize {
         let position = self.head(1, slots);
-        for child in children {
-            self.offset(child);
+        for index in 0..=self.layout.entries() {
+            self.offset(children.get(index).copied());
         }
         self.end(position)
     }
@@ -73,23 +74,29 @@ impl Output {
 
 /// A root leaf with these keys, in the order given; each value is ten times its key.
 pub fn root_leaf(keys: &[u64]) -> Vec<u8> {
-    root_leaf_at(Width::default(), keys)
+    root_leaf_at(Layout::COMMON, keys)
 }
 
-pub fn root_leaf_at(width: Width, keys: &[u64]) -> Vec<u8> {
+pub fn root_leaf_at(layout: Layout, keys: &[u64]) -> Vec<u8> {
     let slots: Vec<_> = keys.iter().map(|&key| (key, 10 * key)).collect();
-    let mut output = Output::at(width);
+    let mut output = Output::at(layout);
     let root = output.leaf(keys.len() as u32, &slots);
     output.record(root, keys.len() as u32)
 }
 
+/// The slots of a full node, with the keys behind one; each value is its key.
+pub fn slots(layout: Layout, behind: u64) -> Vec<(u64, u64)> {
+    let slot = |index| (behind + index, behind + index);
+    (1..=layout.entries() as u64).map(slot).collect()
+}
+
 /// So many nodes nested, each inner one over its first child only; keys ascend.
-pub fn nested_at(width: Width, nodes: u32) -> Vec<u8> {
-    let mut output = Output::at(width);
+pub fn nested_at(layout: Layout, nodes: u32) -> Vec<u8> {
+    let mut output = Output::at(layout);
     let mut node = output.leaf(1, &[(0, 0)]);
+    let entries = layout.entries() as u64;
     for level in 1..u64::from(nodes) {
-        let slots = [1, 2, 3, 4, 5].map(|index| (5 * level + index, level));
-        node = output.inner(&slots, [Some(node), None, None, None, None, None]);
+        node = output.inner(&slots(layout, entries * level), &[node]);
     }
-    output.record(node, 5 * (nodes - 1) + 1)
+    output.record(node, layout.entries() as u32 * (nodes - 1) + 1)
 }

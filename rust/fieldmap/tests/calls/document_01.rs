@@ -3,7 +3,7 @@
 use std::ops::Bound::{Excluded, Included, Unbounded};
 
 use crate::by_hand::{nested_at, root_leaf};
-use crate::given::{built, BEFORE, WIDTHS};
+use crate::given::{built, Sizes, BEFORE, LAYOUTS};
 use fieldmap::Packing::TwosComplement;
 use fieldmap::{Aligned, Entry, Key, Matched, Refusal};
 
@@ -175,9 +175,10 @@ fn leaf_counts() {
 
 #[test]
 fn depth() {
-    for (width, _, _) in WIDTHS {
-        let archive = nested_at(width, 14);
-        assert_eq!(fieldmap::check_at(width, &archive), Ok(66));
-        assert_eq!(fieldmap::certify_at(width, &archive), Ok(66));
+    for Sizes { layout, .. } in LAYOUTS {
+        let archive = nested_at(layout, 14);
+        let count = 13 * layout.entries() + 1;
+        assert_eq!(fieldmap::check_at(layout, &archive), Ok(count));
+        assert_eq!(fieldmap::certify_at(layout, &archive), Ok(count));
     }
 }

@@ -1,7 +1,7 @@
-//! The refusals, the packings, the widths and the limits, against those of `include/fieldmap.h`.
+//! The refusals, the packings, the widths, the common layout and the limits, against those of `include/fieldmap.h`.
 
 use crate::repository;
-use fieldmap::{NoSuchRefusal, Packing, Refusal, Width};
+use fieldmap::{Layout, NoSuchRefusal, Packing, Refusal, Width};
 
 fn header() -> String {
     String::from_utf8(repository::bytes("include/fieldmap.h")).unwrap()
@@ -86,23 +86,41 @@ fn widths() {
         ("WIDTH_32", Width::Bits32 as u8),
         ("WIDTH_64", Width::Bits64 as u8),
     ];
-    numbered(" * The widths", &named);
+    numbered(" * The layouts", &named);
+}
+
+/// The first word that a name is defined as.
+fn limit(name: &str) -> String {
+    let header = header();
+    let limits = between(&header, "#define FIELDMAP_", " ");
+    let (_, rest) = limits.iter().find(|(other, _)| *other == name).unwrap();
+    rest.split_whitespace().next().unwrap().to_string()
+}
+
+#[test]
+fn common_layout() {
+    assert_eq!(Layout::default(), Layout::COMMON);
+    assert_eq!(Layout::from(Width::default()), Layout::COMMON);
+    let width = format!("FIELDMAP_WIDTH_{}", Layout::COMMON.width() as u8);
+    assert_eq!(limit("COMMON_WIDTH"), width);
+    let entries = Layout::COMMON.entries().to_string();
+    assert_eq!(limit("COMMON_ENTRIES"), entries);
+    let both = "FIELDMAP_COMMON_LAYOUT FIELDMAP_COMMON_WIDTH, FIELDMAP_COMMON_ENTRIES\n";
+    assert!(header().contains(both));
 }
 
 #[test]
 fn limits() {
-    let header = header();
-    let limits = between(&header, "#define FIELDMAP_", " ");
-    let limit = |name: &str| {
-        let (_, rest) = limits.iter().find(|(other, _)| *other == name).unwrap();
-        rest.split_whitespace().next().unwrap().to_string()
-    };
     assert_eq!(
         limit("LONGEST_ARCHIVE"),
         fieldmap::LONGEST_ARCHIVE.to_string()
     );
     assert_eq!(limit("MOST_NESTED"), fieldmap::MOST_NESTED.to_string());
-    assert_eq!(limit("MOST_IN_LEAF"), fieldmap::MOST_IN_LEAF.to_string());
+    assert_eq!(
+        limit("FEWEST_IN_NODE"),
+        fieldmap::FEWEST_IN_NODE.to_string()
+    );
+    assert_eq!(limit("MOST_IN_NODE"), fieldmap::MOST_IN_NODE.to_string());
     assert_eq!(limit("MOST_ENTRIES"), fieldmap::MOST_ENTRIES.to_string());
     assert_eq!(
         limit("LONGEST_HEADER"),
@@ -120,7 +138,7 @@ fn refusals_by_number() {
         assert_eq!(Refusal::try_from(refusal.number()), Ok(refusal));
         assert_eq!(u8::from(refusal), refusal.number());
     }
-    for number in [0, 19, u8::MAX] {
+    for number in [0, 19, 23, 25, u8::MAX] {
         assert_eq!(Refusal::try_from(number), Err(NoSuchRefusal(number)));
     }
     let error: Box<dyn std::error::Error> = Box::new(NoSuchRefusal(19));

@@ -7,9 +7,10 @@ mod document_01;
 mod given;
 mod header;
 mod keys;
+mod layouts;
 mod open_archives;
 #[cfg(feature = "alloc")]
 mod owned;
+mod readers;
 mod refusals;
 mod repository;
-mod widths;

@@ -4,7 +4,7 @@ use std::collections::BTreeMap;
 use std::ops::Bound::{Excluded, Included};
 
 use crate::by_hand::root_leaf;
-use crate::given::WIDTHS;
+use crate::given::{Sizes, LAYOUTS};
 use fieldmap::{archive_of, archive_of_at, Archive, Certified, Refusal, Width};
 
 /// A map of so many entries.
@@ -28,14 +28,14 @@ fn maps_come_back() {
 }
 
 #[test]
-fn maps_come_back_at_each_width() {
-    for (width, _, _) in WIDTHS {
-        for count in [0, 1, 5, 6, 36, 216, 2_970] {
+fn maps_come_back_by_each_layout() {
+    for Sizes { layout, .. } in LAYOUTS {
+        for count in [0, 1, 5, 6, 36, 216, 2_000] {
             let map = map(count);
-            let bytes = archive_of_at(width, &map).unwrap();
-            let length = fieldmap::build_length_at(width, map.len(), 0);
+            let bytes = archive_of_at(layout, &map).unwrap();
+            let length = fieldmap::build_length_at(layout, map.len(), 0);
             assert_eq!(Ok(bytes.len()), length);
-            let certified = Certified::certify_at(width, &bytes).unwrap();
+            let certified = Certified::certify_at(layout, &bytes).unwrap();
             assert_eq!(certified.to_map(), map);
             let entries: Vec<(u64, u64)> = map.into_iter().collect();
             assert_eq!(certified.archive().entries(), entries);
@@ -47,11 +47,11 @@ fn maps_come_back_at_each_width() {
 #[test]
 fn too_large_a_map() {
     assert_eq!(archive_of(&map(40_001)), Err(Refusal::TooManyEntries));
-    for (width, _, _) in WIDTHS {
-        let answer = archive_of_at(width, &map(40_001));
+    for Sizes { layout, .. } in LAYOUTS {
+        let answer = archive_of_at(layout, &map(40_001));
         assert_eq!(answer, Err(Refusal::TooManyEntries));
     }
-    let answer = archive_of_at(Width::Bits16, &map(2_971));
+    let answer = archive_of_at(Width::Bits16.into(), &map(2_971));
     assert_eq!(answer, Err(Refusal::OffsetOverflow));
 }
 
