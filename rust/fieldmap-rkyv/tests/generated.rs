@@ -1,4 +1,5 @@
-//! Generated archives of the width that rkyv is built for, certified, open and damaged: what is let through, and what rkyv's readers give of it.
+//! Generated archives of the width that rkyv is built for with 3, 5 and 15 entries a node, certified, open and damaged: what is let through, and what
+//! rkyv's readers give of it.
 
 mod aligned;
 
@@ -9,34 +10,35 @@ use compare::model::{crosses, Layout, LONGEST};
 use compare::rkyv_map;
 use compare::trees::{self, Random};
 use fieldmap::Width;
-use fieldmap_rkyv::{accepted, certified, Map, Refused, WIDTH};
+use fieldmap_rkyv::{accepted, accepted_of, certified, certified_of, Map, MapOf, Refused, WIDTH};
 use rkyv::rancor::Error;
 use rkyv::rend::u64_le;
 
 type Entries = Vec<(u64, u64)>;
 
-/// The layout of the archives.
-const LAYOUT: Layout = Layout {
-    width: WIDTH as usize / 8,
-    entries: 5,
-};
+/// The layout with so many entries a node, as the second reading of document 01 has it.
+const fn layout(entries: usize) -> Layout {
+    let width = WIDTH as usize / 8;
+    Layout { width, entries }
+}
 
 fn native((key, value): (&u64_le, &u64_le)) -> (u64, u64) {
     (key.to_native(), value.to_native())
 }
 
 /// The entries of the proved walk.
-fn walk(bytes: &[u8]) -> Entries {
-    let count = fieldmap::check_at(WIDTH, bytes).unwrap();
+fn walk(layout: fieldmap::Layout, bytes: &[u8]) -> Entries {
+    let count = fieldmap::check_at(layout, bytes).unwrap();
     let (mut keys, mut values) = (vec![0; count], vec![0; count]);
-    let walked = fieldmap::walk_at(WIDTH, bytes, &mut keys, &mut values).unwrap();
+    let walked = fieldmap::walk_at(layout, bytes, &mut keys, &mut values).unwrap();
     assert_eq!((walked.written, walked.count), (count, count));
     keys.into_iter().zip(values).collect()
 }
 
 /// What holds of every map that is let through: all that iterates gives the entries of the walk, and `get` what the proved lookup gives.
-fn holds_accepted(bytes: &[u8], map: &Map, random: &mut Random) -> Entries {
-    let entries = walk(bytes);
+fn holds_accepted<const E: usize>(bytes: &[u8], map: &MapOf<E>, random: &mut Random) -> Entries {
+    let layout = fieldmap::Layout::new(WIDTH, E).unwrap();
+    let entries = walk(layout, bytes);
     assert_eq!(map.len(), entries.len());
     assert_eq!(map.iter().map(native).collect::<Entries>(), entries);
     assert!(map.keys().zip(map.values()).map(native).eq(entries.clone()));
@@ -49,7 +51,7 @@ fn holds_accepted(bytes: &[u8], map: &Map, random: &mut Random) -> Entries {
     let keys: Vec<u64> = entries.iter().map(|entry| entry.0).collect();
     for key in trees::sought(&keys, 8, random) {
         let value = map.get(&u64_le::from_native(key));
-        let found = fieldmap::lookup_at(WIDTH, bytes, key).unwrap();
+        let found = fieldmap::lookup_at(layout, bytes, key).unwrap();
         let found = found.map(|entry| entry.value);
         assert_eq!(value.map(|value| value.to_native()), found);
     }
@@ -59,13 +61,13 @@ fn holds_accepted(bytes: &[u8], map: &Map, random: &mut Random) -> Entries {
     entries
 }
 
-fn range(map: &Map, lower: Bound<u64>, upper: Bound<u64>) -> Entries {
+fn range<const E: usize>(map: &MapOf<E>, lower: Bound<u64>, upper: Bound<u64>) -> Entries {
     let bounds = (lower.map(u64_le::from), upper.map(u64_le::from));
     map.range(bounds).map(native).collect()
 }
 
 /// What holds of a certified map beyond it.
-fn holds_certified(map: &Map, entries: &Entries, random: &mut Random) {
+fn holds_certified<const E: usize>(map: &MapOf<E>, entries: &Entries, random: &mut Random) {
     assert!(entries.windows(2).all(|pair| pair[0].0 < pair[1].0));
     for (key, value) in entries {
         assert_eq!(map.get(&(*key).into()).copied(), Some((*value).into()));
@@ -82,56 +84,77 @@ fn holds_certified(map: &Map, entries: &Entries, random: &mut Random) {
 }
 
 /// The number of a refusal that is not of the address.
-fn refused(answer: Result<&Map, Refused>) -> Option<u8> {
+fn refused<const E: usize>(answer: Result<&MapOf<E>, Refused>) -> Option<u8> {
     match answer.unwrap_err() {
         Refused::Archive(refusal) => Some(refusal.number()),
         Refused::Unaligned => None,
     }
 }
 
-/// What `certified` and `accepted` give of the archive of a seed, whose fault is known from the second reading of document 01. What is let
-/// through, rkyv's own access accepts.
-fn holds(bytes: &[u8], fault: Option<u8>, random: &mut Random) {
+/// What the calls give of the archive of a seed, whose fault is known from the second reading of document 01. What is let through, rkyv's own
+/// access accepts.
+fn holds<const E: usize>(bytes: &[u8], fault: Option<u8>, random: &mut Random) {
     if fault.is_some() {
-        assert_eq!(refused(certified(bytes)), fault);
+        assert_eq!(refused(certified_of::<E>(bytes)), fault);
     }
     if !matches!(fault, None | Some(9)) {
-        assert_eq!(refused(accepted(bytes)), fault);
+        assert_eq!(refused(accepted_of::<E>(bytes)), fault);
         return;
     }
-    let map = accepted(bytes).unwrap();
+    let map = accepted_of::<E>(bytes).unwrap();
     let entries = holds_accepted(bytes, map, random);
-    let theirs = rkyv::access::<Map, Error>(bytes).unwrap();
+    let theirs = rkyv::access::<MapOf<E>, Error>(bytes).unwrap();
     assert!(std::ptr::eq(map, theirs));
     if fault.is_none() {
-        let certified = certified(bytes).unwrap();
+        let certified = certified_of::<E>(bytes).unwrap();
         assert!(std::ptr::eq(map, certified));
         holds_certified(map, &entries, random);
     }
 }
 
-/// Archives of every outcome, each some hundred times.
-#[test]
-fn generated_archives() {
-    let mut outcomes = BTreeMap::new();
-    for seed in 0..6_000 {
-        let bytes = aligned::copy(&trees::archive_at(LAYOUT, seed, 1_000));
-        let fault = LAYOUT.certify(&bytes).err();
-        holds(&bytes, fault, &mut Random::new(seed));
+/// Archives of every outcome, each at least so many times.
+fn generated<const E: usize>(seeds: u64, least: usize) {
+    let (layout, mut outcomes) = (layout(E), BTreeMap::new());
+    for seed in 0..seeds {
+        let bytes = aligned::copy(&trees::archive_at(layout, seed, 1_000));
+        let fault = layout.certify(&bytes).err();
+        holds::<E>(&bytes, fault, &mut Random::new(seed));
         *outcomes.entry(fault).or_insert(0) += 1;
     }
-    for fault in [
-        None,
-        Some(2),
-        Some(3),
-        Some(4),
-        Some(5),
-        Some(6),
-        Some(7),
-        Some(8),
-        Some(9),
-    ] {
-        assert!(outcomes[&fault] > 100, "{outcomes:?}");
+    for fault in [None].into_iter().chain((2..=9).map(Some)) {
+        assert!(outcomes[&fault] >= least, "{outcomes:?}");
+    }
+}
+
+#[test]
+fn generated_archives() {
+    generated::<5>(6_000, 100);
+}
+
+#[test]
+fn generated_archives_of_3() {
+    generated::<3>(2_000, 20);
+}
+
+#[test]
+fn generated_archives_of_15() {
+    generated::<15>(2_000, 20);
+}
+
+/// The calls without an `E` are those with 5.
+#[test]
+fn calls_without_entries() {
+    for seed in 0..500 {
+        let bytes = aligned::copy(&trees::archive_at(layout(5), seed, 1_000));
+        let address = |map: &Map| std::ptr::from_ref(map);
+        assert_eq!(
+            certified(&bytes).map(address),
+            certified_of::<5>(&bytes).map(address)
+        );
+        assert_eq!(
+            accepted(&bytes).map(address),
+            accepted_of::<5>(&bytes).map(address)
+        );
     }
 }
 
