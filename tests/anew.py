@@ -8,12 +8,12 @@ fieldmap = c.CDLL(library)
 SIZE, U64 = c.c_size_t, c.POINTER(c.c_uint64)
 FIELDS = c.c_uint32, c.c_uint8, c.c_int8, c.c_int8, c.c_uint32
 TWOS_COMPLEMENT, PLUS_128 = 0, 1
-WIDTH = 32
+LAYOUT = 32, 5
 for call, *arguments in [
     (fieldmap.fieldmap_unpack, c.c_uint64, c.c_uint8, *map(c.POINTER, FIELDS)),
     (fieldmap.fieldmap_pack, c.c_uint8, *FIELDS, U64),
-    (fieldmap.fieldmap_build_length, c.c_uint8, SIZE, SIZE),
-    (fieldmap.fieldmap_build, c.c_uint8, c.POINTER(c.c_uint8), SIZE, SIZE, U64, SIZE, U64, SIZE),
+    (fieldmap.fieldmap_build_length, c.c_uint8, SIZE, SIZE, SIZE),
+    (fieldmap.fieldmap_build, c.c_uint8, SIZE, c.POINTER(c.c_uint8), SIZE, SIZE, U64, SIZE, U64, SIZE),
 ]:
     call.argtypes, call.restype = arguments, c.c_int64
 
@@ -30,9 +30,9 @@ with open(file, encoding="ascii") as opened:
 entries = sorted((anew(int(key)), int(value)) for key, value in map(str.split, lines))
 count = len(entries)
 keys, values = ((c.c_uint64 * count)(*numbers) for numbers in zip(*entries))
-length = fieldmap.fieldmap_build_length(WIDTH, count, 0)
+length = fieldmap.fieldmap_build_length(*LAYOUT, count, 0)
 archive = (c.c_uint8 * length)()
-assert fieldmap.fieldmap_build(WIDTH, archive, length, 0, keys, count, values, count) == length
+assert fieldmap.fieldmap_build(*LAYOUT, archive, length, 0, keys, count, values, count) == length
 with open(name + ".fieldmap", "wb") as written:
     written.write(archive)
 with open(name + ".txt", "w", encoding="ascii") as text:

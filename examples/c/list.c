@@ -1,6 +1,7 @@
 /*
  * list FILE PACKING prints what an archive is, and its points. PACKING is how x and y stand in its keys, twos-complement or plus-128, which the
- * archive does not say. Its offsets and counts must have 32 bits, which it does not say either: of one with 64 bits the list is empty.
+ * archive does not say. It must have the common layout, 32 bits and 5 entries a node, which it does not say either: of one with 64 bits the list
+ * is empty.
  *
  * The first line is `certified N`, `open N` where the archive is accepted and not certified, or `refused N: why`. Then comes a line a point, in
  * the order of the walk: the examination, the eye, x and y in degrees, the presentation, whether it was seen, and the threshold. Why an open
@@ -58,7 +59,7 @@ static int print_list(
     const uint8_t *archive, size_t length, uint8_t packing, int certified, uint64_t *keys, uint64_t *values, size_t room)
 {
     uint64_t count;
-    int64_t written = fieldmap_walk(FIELDMAP_WIDTH_32, archive, length, keys, room, values, room, &count);
+    int64_t written = fieldmap_walk(FIELDMAP_COMMON_LAYOUT, archive, length, keys, room, values, room, &count);
     if (written < 0)
         return refused(written);
     printf("%s %" PRIu64 "\n", certified ? "certified" : "open", count);
@@ -69,8 +70,8 @@ static int print_list(
 
 static int list(const uint8_t *archive, size_t length, uint8_t packing)
 {
-    int64_t certified = fieldmap_certify(FIELDMAP_WIDTH_32, archive, length);
-    int64_t count = certified >= 0 ? certified : fieldmap_check(FIELDMAP_WIDTH_32, archive, length);
+    int64_t certified = fieldmap_certify(FIELDMAP_COMMON_LAYOUT, archive, length);
+    int64_t count = certified >= 0 ? certified : fieldmap_check(FIELDMAP_COMMON_LAYOUT, archive, length);
     if (count < 0)
         return refused(count);
     if (certified < 0)

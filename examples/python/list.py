@@ -1,19 +1,20 @@
 """list.py FILE PACKING [LIBRARY] prints what an archive is, and its points, as examples/c/list.c does.
 
-PACKING is how x and y stand in the archive's keys, twos-complement or plus-128, which the archive does not say. Its offsets and counts must have 32
-bits, which it does not say either: of one with 64 bits the list is empty. LIBRARY is the shared library, ./libfieldmap.so if none is given. The program
-ends with 0, with 1 where the archive is refused, and with 2 where the arguments are not understood or the file or the library cannot be read.
+PACKING is how x and y stand in the archive's keys, twos-complement or plus-128, which the archive does not say. It must have the common layout, 32
+bits and 5 entries a node, which it does not say either: of one with 64 bits the list is empty. LIBRARY is the shared library, ./libfieldmap.so if none
+is given. The program ends with 0, with 1 where the archive is refused, and with 2 where the arguments are not understood or the file or the library
+cannot be read.
 """
 import ctypes as c
 import sys
 
-# What certify refuses by, from 1 on, in the words of fieldmap.h.
+# What certify refuses by at the common layout, from 1 on, in the words of fieldmap.h.
 REFUSALS = """the archive is longer than 1,048,576 bytes
 the record or a node leaves its range
 the record or a node is not on its alignment
 a node is neither a leaf nor an inner node
 more than 14 nodes are nested
-a leaf counts more than 5 entries
+a leaf counts more entries than a node may have
 the entries are not as many as recorded
 a leaf is empty, or an inner node has no first child
 a key is not above the one before""".splitlines()
@@ -21,8 +22,8 @@ a key is not above the one before""".splitlines()
 # The packings by their names, as fieldmap.h numbers them.
 PACKINGS = {"twos-complement": 0, "plus-128": 1}
 
-# The width of the archive's offsets and counts.
-WIDTH = 32
+# The archive's layout: the bits of its offsets and counts, and the entries a node.
+LAYOUT = 32, 5
 
 
 def fail(*words):
@@ -43,9 +44,9 @@ except OSError as error:
 BITS, BYTES, SIZE, U64 = c.c_uint8, c.c_char_p, c.c_size_t, c.POINTER(c.c_uint64)
 FIELDS = c.c_uint32, c.c_uint8, c.c_int8, c.c_int8, c.c_uint32
 for call, *arguments in [
-    (fieldmap.fieldmap_check, BITS, BYTES, SIZE),
-    (fieldmap.fieldmap_certify, BITS, BYTES, SIZE),
-    (fieldmap.fieldmap_walk, BITS, BYTES, SIZE, U64, SIZE, U64, SIZE, U64),
+    (fieldmap.fieldmap_check, BITS, SIZE, BYTES, SIZE),
+    (fieldmap.fieldmap_certify, BITS, SIZE, BYTES, SIZE),
+    (fieldmap.fieldmap_walk, BITS, SIZE, BYTES, SIZE, U64, SIZE, U64, SIZE, U64),
     (fieldmap.fieldmap_unpack, c.c_uint64, c.c_uint8, *map(c.POINTER, FIELDS)),
     (fieldmap.fieldmap_seen, c.c_uint64),
     (fieldmap.fieldmap_threshold, c.c_uint64),
@@ -57,15 +58,15 @@ def refused(answer):
     return f"refused {-answer}: {REFUSALS[-answer - 1]}"
 
 
-certified = fieldmap.fieldmap_certify(WIDTH, archive, len(archive))
-count = certified if certified >= 0 else fieldmap.fieldmap_check(WIDTH, archive, len(archive))
+certified = fieldmap.fieldmap_certify(*LAYOUT, archive, len(archive))
+count = certified if certified >= 0 else fieldmap.fieldmap_check(*LAYOUT, archive, len(archive))
 if count < 0:
     print(refused(count))
     sys.exit(1)
 if certified < 0:
     print("not certified:", refused(certified), file=sys.stderr)
 keys, values, recorded = (c.c_uint64 * count)(), (c.c_uint64 * count)(), c.c_uint64()
-written = fieldmap.fieldmap_walk(WIDTH, archive, len(archive), keys, count, values, count, recorded)
+written = fieldmap.fieldmap_walk(*LAYOUT, archive, len(archive), keys, count, values, count, recorded)
 print("certified" if certified >= 0 else "open", count)
 for key, value in zip(keys[:written], values[:written]):
     fields = [field() for field in FIELDS]

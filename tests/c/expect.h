@@ -6,13 +6,16 @@
 #include <stdio.h>
 #include <stdlib.h>
 
-/* The width that the calls are given, which is named where something does not hold. */
+/* The layout that the calls are given, which is named where something does not hold. */
 static uint8_t width;
+static size_t entries;
+
+#define LAYOUT width, entries
 
 #define EXPECT(holds)                                                                                                                          \
     do {                                                                                                                                       \
         if (!(holds)) {                                                                                                                        \
-            printf("%s:%d: with width %d: %s\n", __FILE__, __LINE__, width, #holds);                                                           \
+            printf("%s:%d: with width %d and %lu entries a node: %s\n", __FILE__, __LINE__, width, (unsigned long)entries, #holds);             \
             exit(1);                                                                                                                           \
         }                                                                                                                                      \
     } while (0)
@@ -26,5 +29,17 @@ static uint8_t width;
 
 /* What a place holds before a call. */
 #define BEFORE UINT64_C(0x5555555555555555)
+
+/* A stored number between two others, which must stay. */
+struct stored {
+    uint64_t before, number, after;
+};
+
+static const struct stored fresh = {BEFORE, BEFORE, BEFORE};
+
+static inline int kept(const struct stored *s)
+{
+    return s->before == BEFORE && s->after == BEFORE;
+}
 
 #endif

@@ -1,7 +1,7 @@
 /*
  * stack LIMIT measures how much stack the calls that take lists use: on archives of 1 to 15 nested nodes and on the longest, and in builds up to
- * the largest, each by 16, 32 and 64 bits. Prints the most bytes of each call, and ends with 1 if one uses more than LIMIT, with 2 if an archive
- * is not what it should be.
+ * the largest, each by 16, 32 and 64 bits with 3, 5 and 15 entries a node. Prints the most bytes of each call, and ends with 1 if one uses more
+ * than LIMIT, with 2 if an archive is not what it should be.
  *
  * A call runs on a stack of its own, every byte of which holds the same number; it has used what is above the lowest byte that holds another
  * one. It runs twice, since what it stores may be the number itself. What a call takes that does nothing is taken off. Linked with -z now, so
@@ -16,14 +16,24 @@
 
 #include "fieldmap.h"
 
-/* A leaf's count stands where an inner node has its children. One node more than may be nested. */
-enum { STACK = 1 << 18, LEAF = 96, KEYS = 8, CHILDREN = 88, NESTED = FIELDMAP_MOST_NESTED + 1 };
+/* One node more than may be nested. */
+enum { STACK = 1 << 18, KEYS = 8, NESTED = FIELDMAP_MOST_NESTED + 1 };
 
-/* The width that the calls are given, with the bytes of an offset or a count and of an inner node, and the most entries of a build. */
+/* The key of the lowest leaf, and how far the keys of a node stand from those of the next. */
+enum { SOUGHT = 999, STEP = 20 };
+
+/* The layout that the calls are given, with the bytes of an offset or a count, of a leaf and of an inner node, and the most entries of a build. */
 static struct {
     uint8_t bits;
-    size_t number, inner, most;
-} width, widths[3] = {{FIELDMAP_WIDTH_16, 2, 104, 2970}, {FIELDMAP_WIDTH_32, 4, 112, 40000}, {FIELDMAP_WIDTH_64, 8, 136, 40000}};
+    size_t in_node, number, leaf, inner, most;
+} layout, layouts[9] = {
+    {FIELDMAP_WIDTH_16, 3, 2, 64, 64, 2556},  {FIELDMAP_WIDTH_16, 5, 2, 96, 104, 2970},  {FIELDMAP_WIDTH_16, 15, 2, 256, 280, 2145},
+    {FIELDMAP_WIDTH_32, 3, 4, 64, 72, 40000}, {FIELDMAP_WIDTH_32, 5, 4, 96, 112, 40000}, {FIELDMAP_WIDTH_32, 15, 4, 256, 312, 40000},
+    {FIELDMAP_WIDTH_64, 3, 8, 64, 88, 40000}, {FIELDMAP_WIDTH_64, 5, 8, 96, 136, 40000}, {FIELDMAP_WIDTH_64, 15, 8, 256, 376, 40000},
+};
+
+/* A leaf's count stands where an inner node has its children, in the last eight bytes of a leaf. */
+#define CHILDREN (layout.leaf - 8)
 
 static uint8_t stack[STACK] __attribute__((aligned(64)));
 static ucontext_t here, there;
@@ -33,20 +43,21 @@ static size_t length, entries;
 static uint64_t keys[FIELDMAP_MOST_ENTRIES], values[FIELDMAP_MOST_ENTRIES], number, position;
 static volatile int64_t answer;
 
+#define LAYOUT layout.bits, layout.in_node
 #define LISTS keys, FIELDMAP_MOST_ENTRIES, values, FIELDMAP_MOST_ENTRIES
 
 static void nothing(void) { answer = 0; }
-static void check(void) { answer = fieldmap_check(width.bits, archive, length); }
-static void certify(void) { answer = fieldmap_certify(width.bits, archive, length); }
-static void lookup(void) { answer = fieldmap_lookup(width.bits, archive, length, 999, &number, &position); }
-static void lookup_bytes(void) { answer = fieldmap_lookup_bytes(width.bits, archive, length, 999, &position); }
-static void lookup_many(void) { answer = fieldmap_lookup_many(width.bits, archive, length, LISTS); }
-static void walk(void) { answer = fieldmap_walk(width.bits, archive, length, LISTS, &number); }
-static void range(void) { answer = fieldmap_range(width.bits, archive, length, FIELDMAP_EXCLUDED, 0, FIELDMAP_EXCLUDED, UINT64_MAX, LISTS, &number); }
-static void old_column(void) { answer = fieldmap_column(width.bits, archive, length, FIELDMAP_TWOS_COMPLEMENT, 0, 0, 0, -1, LISTS, &number); }
-static void new_column(void) { answer = fieldmap_column(width.bits, archive, length, FIELDMAP_PLUS_128, 0, 0, -128, 127, LISTS, &number); }
-static void build(void) { answer = fieldmap_build(width.bits, archive, sizeof archive, 0, keys, entries, values, entries); }
-static void build_length(void) { answer = fieldmap_build_length(width.bits, entries, 0); }
+static void check(void) { answer = fieldmap_check(LAYOUT, archive, length); }
+static void certify(void) { answer = fieldmap_certify(LAYOUT, archive, length); }
+static void lookup(void) { answer = fieldmap_lookup(LAYOUT, archive, length, SOUGHT, &number, &position); }
+static void lookup_bytes(void) { answer = fieldmap_lookup_bytes(LAYOUT, archive, length, SOUGHT, &position); }
+static void lookup_many(void) { answer = fieldmap_lookup_many(LAYOUT, archive, length, LISTS); }
+static void walk(void) { answer = fieldmap_walk(LAYOUT, archive, length, LISTS, &number); }
+static void range(void) { answer = fieldmap_range(LAYOUT, archive, length, FIELDMAP_EXCLUDED, 0, FIELDMAP_EXCLUDED, UINT64_MAX, LISTS, &number); }
+static void old_column(void) { answer = fieldmap_column(LAYOUT, archive, length, FIELDMAP_TWOS_COMPLEMENT, 0, 0, 0, -1, LISTS, &number); }
+static void new_column(void) { answer = fieldmap_column(LAYOUT, archive, length, FIELDMAP_PLUS_128, 0, 0, -128, 127, LISTS, &number); }
+static void build(void) { answer = fieldmap_build(LAYOUT, archive, sizeof archive, 0, keys, entries, values, entries); }
+static void build_length(void) { answer = fieldmap_build_length(LAYOUT, entries, 0); }
 
 /* The calls, each with the most that it has used so far. The builds come last. */
 static struct {
@@ -103,7 +114,7 @@ static void put(size_t at, uint64_t bits, size_t bytes)
 static void put_leaf(size_t at, uint64_t key)
 {
     put(at + KEYS, key, 8);
-    put(at + CHILDREN, 1, width.number);
+    put(at + CHILDREN, 1, layout.number);
 }
 
 /*
@@ -113,33 +124,33 @@ static void put_leaf(size_t at, uint64_t key)
 static void put_inner(size_t at, size_t height, size_t child, size_t below, size_t first)
 {
     put(at, 1, 1);
-    for (size_t slot = 0; slot < 5; slot++)
-        put(at + KEYS + 8 * slot, slot < child ? 10 * (NESTED - height) + 1 + slot : 1000 + 10 * height + slot, 8);
-    for (size_t i = 0; i < 6; i++) {
-        size_t field = at + CHILDREN + width.number * i;
-        put(field, i == child ? below - field : i == 0 ? first - field : 1, width.number);
+    for (size_t slot = 0; slot < layout.in_node; slot++)
+        put(at + KEYS + 8 * slot, slot < child ? STEP * (NESTED - height) + 1 + slot : SOUGHT + 1 + STEP * height + slot, 8);
+    for (size_t i = 0; i <= layout.in_node; i++) {
+        size_t field = at + CHILDREN + layout.number * i;
+        put(field, i == child ? below - field : i == 0 ? first - field : 1, layout.number);
     }
 }
 
 /* A leaf below inner nodes, each the given child of the next; so many in all. What is the first child of a node stands before the others. */
 static size_t nest(size_t nodes, size_t child)
 {
-    size_t inner = nodes - 1, leaves = child > 0 ? inner : 0, root = leaves * LEAF;
-    memset(archive, 0, NESTED * (LEAF + width.inner));
-    put_leaf(root, 999);
-    length = root + LEAF;
+    size_t inner = nodes - 1, leaves = child > 0 ? inner : 0, root = leaves * layout.leaf;
+    memset(archive, 0, NESTED * (layout.leaf + layout.inner));
+    put_leaf(root, SOUGHT);
+    length = root + layout.leaf;
     for (size_t height = 1; height <= inner; height++) {
-        size_t first = child > 0 ? (inner - height) * LEAF : 0;
+        size_t first = child > 0 ? (inner - height) * layout.leaf : 0;
         if (child > 0)
-            put_leaf(first, 10 * (NESTED - height));
+            put_leaf(first, STEP * (NESTED - height));
         put_inner(length, height, child, root, first);
         root = length;
-        length += width.inner;
+        length += layout.inner;
     }
-    put(length, root - length, width.number);
-    put(length + width.number, 1 + 5 * inner + leaves, width.number);
-    length += 2 * width.number;
-    return 1 + 5 * inner + leaves;
+    put(length, root - length, layout.number);
+    put(length + layout.number, 1 + layout.in_node * inner + leaves, layout.number);
+    length += 2 * layout.number;
+    return 1 + layout.in_node * inner + leaves;
 }
 
 /* The archive of so many entries at the end of the longest archive in which its nodes are aligned, and whether it is certified. */
@@ -149,23 +160,24 @@ static int longest(void)
     size_t end = (size_t)answer, start = (sizeof archive - end) / 8 * 8;
     length = start + end;
     memmove(archive + start, archive, end);
-    return fieldmap_certify(width.bits, archive, length) == (int64_t)entries;
+    return fieldmap_certify(LAYOUT, archive, length) == (int64_t)entries;
 }
 
-static int measure_by_width(void)
+static int measure_by_layout(void)
 {
     for (size_t i = 0; i < FIELDMAP_MOST_ENTRIES; i++)
         keys[i] = values[i] = i;
-    for (entries = 0; entries < width.most; entries += 1 + entries / 2)
+    for (entries = 0; entries < layout.most; entries += 1 + entries / 2)
         measure(READERS, CALLS);
-    entries = width.most;
+    entries = layout.most;
     measure(READERS, CALLS);
     if (!longest())
         return 0;
     measure(0, READERS);
-    for (size_t i = 0; i < NESTED * 6; i++) {
-        size_t nodes = 1 + i / 6, count = nest(nodes, i % 6);
-        if (fieldmap_certify(width.bits, archive, length) != (nodes < NESTED ? (int64_t)count : -FIELDMAP_EXCEEDED_MAXIMUM_SUBTREE_DEPTH))
+    const size_t children[3] = {0, 1, layout.in_node};
+    for (size_t i = 0; i < NESTED * 3; i++) {
+        size_t nodes = 1 + i / 3, count = nest(nodes, children[i % 3]);
+        if (fieldmap_certify(LAYOUT, archive, length) != (nodes < NESTED ? (int64_t)count : -FIELDMAP_EXCEEDED_MAXIMUM_SUBTREE_DEPTH))
             return 0;
         measure(0, READERS);
     }
@@ -176,9 +188,9 @@ int main(int argc, char **argv)
 {
     long limit = argc == 2 ? atol(argv[1]) : 0;
     int status = 0;
-    for (size_t i = 0; i < 3; i++) {
-        width = widths[i];
-        if (!measure_by_width())
+    for (size_t i = 0; i < sizeof layouts / sizeof layouts[0]; i++) {
+        layout = layouts[i];
+        if (!measure_by_layout())
             return 2;
     }
     for (size_t i = 0; i < CALLS; i++) {

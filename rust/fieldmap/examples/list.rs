@@ -1,5 +1,5 @@
 //! `list FILE` prints the list of an archive: `certified`, or `open` if it is only accepted, and the count; then key and value a line. The
-//! archive's offsets and counts must have 32 bits, which it does not say: of one with 64 bits the list is empty.
+//! archive must have the common layout, 32 bits and 5 entries a node, which it does not say: of one with 64 bits the list is empty.
 //!
 //! Why an archive is open goes to standard error. A refused archive prints its refusal, and the program ends with 1. It ends with 2 where the
 //! file cannot be read or the text not written. A reader that closes the pipe early ends the list.

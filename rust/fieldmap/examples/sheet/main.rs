@@ -1,6 +1,7 @@
 //! `sheet FILE PACKING EXAMINATION EYE` draws one eye's field of an examination as perimeters print it, in SVG on standard output. PACKING is how
 //! x and y stand in the archive's keys, `twos-complement` or `plus-128`, which the archive does not say. EYE is `right` or `left`, or 0 or 1 as
-//! keys have it. The archive's offsets and counts must have 32 bits, which it does not say either: in one with 64 bits no point is found.
+//! keys have it. The archive must have the common layout, 32 bits and 5 entries a node, which it does not say either: in one with 64 bits no point is
+//! found.
 //!
 //! Each point shows its threshold in whole decibels, halves rounded up, on a grey tone, the darker the lower; a point that was not seen is black
 //! and shows `<0`. Where a point was presented several times, the latest presentation counts: the one with the highest number. The dashed line
