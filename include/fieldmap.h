@@ -84,8 +84,8 @@ enum {
  * a count of 0 says nothing.
  *
  * Reading by other entries a node. What fieldmap_build writes of one entry or more is refused by more entries a node than its own (2). By fewer
- * it is refused or passes, which its values decide, and where it passes, also certification, its entries are read wrongly. Of no entries the
- * archive is the same by all.
+ * it is refused or passes, which its values decide; where it passes, also certification, it can show values that it does not have. Of no entries
+ * the archive is the same by all.
  */
 enum {
     FIELDMAP_WIDTH_16 = 16,

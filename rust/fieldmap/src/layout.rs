@@ -32,8 +32,8 @@ use crate::{Refusal, Width, FEWEST_IN_NODE, MOST_IN_NODE};
 /// # Reading by another layout
 ///
 /// [`Width`] says what becomes of an archive that is read by another width. What [`build_at`](crate::build_at()) writes of one entry or more
-/// is refused by more entries a node than its own. By fewer it is refused or passes, which its values decide, and where it passes, also
-/// certification, its entries are read wrongly:
+/// is refused by more entries a node than its own. By fewer it is refused or passes, which its values decide; where it passes, also
+/// certification, it can show values that it does not have:
 ///
 /// ```
 /// use fieldmap::{Layout, Refusal, Width};
