@@ -1,5 +1,4 @@
-//! Calls to a builder, and what they must give: the bytes that rkyv builds of the same lists, or a refusal. The program `builds` and the
-//! package for other layouts put them to their own builders.
+//! Calls to a builder, and what they must give: the bytes that rkyv and the second reading build of the same lists, or a refusal.
 //!
 //! Where an offset does not fit rkyv's pointers, rkyv panics: there a builder must refuse by 16, and nowhere else. rkyv has no counterpart
 //! to the other refusals.
@@ -10,34 +9,68 @@ use std::ops::RangeInclusive;
 use crate::counts::{Counts, LEAST};
 use crate::lists::entries;
 use crate::model::{Layout, LONGEST, LONGEST_HEADER};
+use crate::oracle;
 use crate::readers::{same, same_bytes};
-use crate::trees::{self, Random};
+use crate::rkyv_map::BITS;
+use crate::trees::{Complete, Random};
 
 /// The longest header.
 pub const HEADER: usize = LONGEST_HEADER as usize;
 
-/// rkyv's build of keys and values behind a header, or nothing where an offset does not fit and rkyv panics.
-pub type Build = fn(&[u8], &[u64], &[u64]) -> Option<Vec<u8>>;
-
 /// What is right where nothing that comes before 16 refuses a build.
 pub struct Right {
-    /// rkyv's archive with the header in front, or 16.
+    /// The archive with the header in front, or 16.
     pub archive: Result<Vec<u8>, u8>,
     /// Where it ends, or would end.
     pub end: usize,
+    /// Whether rkyv panics.
+    pub panics: bool,
 }
 
 impl Right {
-    /// What rkyv says, built for a layout.
-    pub fn of(layout: Layout, by_rkyv: Build, header: &[u8], keys: &[u64], values: &[u64]) -> Self {
-        let archive = by_rkyv(header, keys, values);
-        let end = match &archive {
-            Some(archive) => archive.len(),
-            None => trees::complete(layout, header, keys, values).len(),
+    /// What rkyv and the second reading say, with so many entries a node.
+    ///
+    /// # Panics
+    ///
+    /// Where they do not say the same, but for one place: rkyv keeps the root's position in as many bits as its pointers have. Past these it
+    /// panics, though every offset fits.
+    pub fn of(entries: usize, header: &[u8], keys: &[u64], values: &[u64]) -> Self {
+        let layout = Layout::with(entries);
+        let built = Complete::of(layout, header, keys, values);
+        let by_rkyv = oracle::build(entries, header, keys, values);
+        let cut = built.root.is_some_and(|root| root >> BITS.min(63) > 0);
+        let what = || {
+            let (count, front) = (keys.len(), header.len());
+            format!("rkyv and the second reading, {layout:?}, {count} behind {front} bytes")
         };
-        let archive = archive.ok_or(16);
-        Self { archive, end }
+        match &by_rkyv {
+            Some(archive) => assert!(
+                built.fits && !cut && *archive == built.archive,
+                "{}",
+                what()
+            ),
+            None => assert!(!built.fits || cut, "{}", what()),
+        }
+        Self {
+            end: built.archive.len(),
+            archive: if built.fits {
+                Ok(built.archive)
+            } else {
+                Err(16)
+            },
+            panics: by_rkyv.is_none(),
+        }
     }
+}
+
+/// The most entries whose offsets fit 16 bits, with 3 to 15 a node.
+const MOST_AT_16: [usize; 13] = [
+    2_556, 2_224, 2_970, 2_070, 2_282, 2_512, 2_808, 3_160, 3_575, 2_028, 2_067, 2_100, 2_145,
+];
+
+/// The most entries whose offsets fit 16 bits with so many a node: one more does not fit, which `builds` and its test try.
+pub fn most_at_16(entries: usize) -> usize {
+    MOST_AT_16[entries - 3]
 }
 
 /// What a call is given, and the length of the output that it is lent.
@@ -202,6 +235,11 @@ impl Outputs {
             .and_then(|()| same_bytes("other bytes", &before[archive.len()..], past))
     }
 
+    /// How many calls there were.
+    pub fn calls(&self) -> u64 {
+        self.answers.all().0
+    }
+
     /// The first bytes of the output after a call.
     pub fn written(&self, length: usize) -> &[u8] {
         &self.output[..length]
@@ -220,7 +258,7 @@ impl Outputs {
     pub fn finish(&self, refusals: &[RangeInclusive<usize>], enough: bool) -> bool {
         let (all, archives) = self.answers.all();
         let line = |name: &str, count: u64| println!("{name:36}{count:9}");
-        line("archives compared with rkyv's", archives);
+        line("archives compared", archives);
         line("refused calls", all - archives);
         let mut rare = Vec::new();
         for numbers in refusals {

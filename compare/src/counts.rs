@@ -81,6 +81,8 @@ pub struct LeftOut {
     pub hollow: u64,
     /// Ranges asked of archives that are not hollow and whose keys do not ascend.
     pub unsorted: u64,
+    /// Calls that name a number of entries a node outside 3 to 15.
+    pub outside: u64,
 }
 
 impl fmt::Display for LeftOut {
@@ -91,6 +93,7 @@ impl fmt::Display for LeftOut {
             ("crossed ranges", self.crossed),
             ("ranges of hollow archives (RawIter)", self.hollow),
             ("ranges of unsorted archives", self.unsorted),
+            ("calls refused by 24", self.outside),
         ];
         writeln!(f, "with the second reading only, not with rkyv:")?;
         for (name, count) in lines {

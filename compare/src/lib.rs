@@ -10,6 +10,7 @@ pub mod lender;
 pub mod lists;
 pub mod measure;
 pub mod model;
+pub mod oracle;
 #[cfg(feature = "ours")]
 pub mod ours;
 pub mod questions;

@@ -2,11 +2,10 @@
 //! a build and an alignment step; key packing and column queries, also by document 02's second packing.
 //!
 //! What is read off the bytes is read at any layout (`Layout`). The functions and sizes without one are those of the
-//! layout that rkyv is built for here, `OWN`.
+//! layout with 5 entries a node that rkyv is built for here, `OWN`.
 //!
-//! rkyv has no counterpart to refusals 1, 8 to 14, 17 and 18 nor to key packing, and answers crossed ranges otherwise;
-//! there this module is the reference. Where rkyv has one, the program `compare` holds this module to it, and the
-//! program `layouts` at other layouts.
+//! rkyv has no counterpart to refusals 1, 8 to 14, 17, 18 and 24 nor to key packing, and answers crossed ranges
+//! otherwise; there this module is the reference. Where rkyv has one, the program `compare` holds this module to it.
 
 mod keys;
 mod layout;
@@ -14,7 +13,7 @@ mod ranges;
 mod tree;
 
 pub use keys::{pack, seen, threshold, unpack, KeyFields, Packing, PACKINGS};
-pub use layout::{Layout, COMMON, KEYS, OWN};
+pub use layout::{Layout, COMMON, KEYS, OUTSIDE, OWN, RANGE};
 pub use ranges::{column, crosses, in_column, range, Column};
 pub use tree::{Entry, Node};
 

@@ -9,8 +9,9 @@ use std::fmt::Debug;
 use std::ops::Bound;
 
 use crate::counts::LeftOut;
-use crate::model::{self, narrow, Entry, Layout, OWN};
-use crate::rkyv_map::{Accepted, Archive, WIDTH};
+use crate::model::{self, narrow, Entry, Layout};
+use crate::oracle::{self, Checked, Reads};
+use crate::rkyv_map::Archive;
 use crate::trees::{self, Random};
 
 /// Keys and pairs of bounds asked of each archive.
@@ -19,70 +20,59 @@ const QUESTIONS: usize = 8;
 /// A lower and an upper bound.
 pub type Bounds = (Bound<u64>, Bound<u64>);
 
-/// The first difference in the answers about one archive.
+/// The first difference in the answers about one archive, read with so many entries a node.
 pub fn compare(
+    entries: usize,
     archive: &Archive,
     random: &mut Random,
     left_out: &mut LeftOut,
 ) -> Result<(), String> {
-    let bytes = archive.bytes();
+    let (layout, bytes) = (Layout::with(entries), archive.bytes());
     let checked = match model::too_long(bytes) {
         // rkyv has no such limit.
         true => {
             left_out.too_long += 1;
             Err(1)
         }
-        false => archive.check(),
+        false => oracle::check(entries, archive),
     };
-    let count = count(&checked);
-    same("check", ("rkyv", count), ("model", model::check(bytes)))?;
+    let right = layout.check(bytes).map(narrow);
+    same("check", ("rkyv", count(&checked)), ("model", right))?;
 
-    let entries = match &checked {
+    let list = match &checked {
         Ok(accepted) => accepted.visit(),
         Err(_) => Vec::new(),
     };
-    let keys: Vec<u64> = entries.iter().map(|entry| entry.0).collect();
+    let keys: Vec<u64> = list.iter().map(|entry| entry.0).collect();
     let sought = trees::sought(&keys, QUESTIONS, random);
     let ranges: Vec<Bounds> = (0..QUESTIONS)
         .map(|_| trees::bounds(&keys, random))
         .collect();
     if let Ok(accepted) = &checked {
-        count_left_out(bytes, &ranges, left_out);
-        readers(OWN, bytes, accepted, &sought, &ranges)?;
+        count_left_out(layout, bytes, &ranges, left_out);
+        readers(layout, bytes, &**accepted, &sought, &ranges)?;
     }
     #[cfg(feature = "ours")]
     {
         let before = bytes.to_vec();
-        proved::compare(bytes, &checked, &entries, &sought, random)?;
-        proved::compare_ranges(bytes, &checked, &ranges, random)?;
-        proved::compare_columns(bytes, &checked, &entries, &sought, random)?;
+        let asked = proved::Asked {
+            layout,
+            bytes,
+            checked: &checked,
+            certified: layout.certify(bytes).map(narrow),
+            list: &list,
+        };
+        asked.compare(&sought, random)?;
+        asked.compare_ranges(&ranges, random)?;
+        asked.compare_columns(&sought, random)?;
+        left_out.outside += asked.compare_outside(&sought, random)?;
         same("archive", ("before", &before[..]), ("after", bytes))?;
     }
     Ok(())
 }
 
-/// The first difference between rkyv's answers about one archive and the model's, with so many entries a node and
-/// pointers of the bits that rkyv is built for. The archive is within the limit, which rkyv does not have.
-pub fn compare_with_rkyv<const N: usize>(
-    archive: &Archive,
-    sought: &[u64],
-    ranges: &[Bounds],
-) -> Result<(), String> {
-    let layout = Layout {
-        width: WIDTH,
-        entries: N,
-    };
-    let (bytes, checked) = (archive.bytes(), archive.check_of::<N>());
-    let model = layout.check(bytes).map(narrow);
-    same("check", ("rkyv", count(&checked)), ("model", model))?;
-    match &checked {
-        Ok(accepted) => readers(layout, bytes, accepted, sought, ranges),
-        Err(_) => Ok(()),
-    }
-}
-
 /// What rkyv's check answers, as a number.
-fn count<const N: usize>(checked: &Result<Accepted<N>, u8>) -> Result<u32, u8> {
+fn count(checked: &Checked) -> Result<u32, u8> {
     match checked {
         Ok(accepted) => Ok(accepted.count()),
         Err(number) => Err(*number),
@@ -90,12 +80,12 @@ fn count<const N: usize>(checked: &Result<Accepted<N>, u8>) -> Result<u32, u8> {
 }
 
 /// Counts what rkyv is not asked of an accepted archive.
-fn count_left_out(bytes: &[u8], ranges: &[Bounds], left_out: &mut LeftOut) {
+fn count_left_out(layout: Layout, bytes: &[u8], ranges: &[Bounds], left_out: &mut LeftOut) {
     left_out.certify += 1;
     let crossed = ranges
         .iter()
         .filter(|&&(lower, upper)| model::crosses(lower, upper));
-    match model::fault(bytes) {
+    match layout.fault(bytes) {
         None => left_out.crossed += crossed.count() as u64,
         Some(8) => left_out.hollow += ranges.len() as u64,
         Some(_) => left_out.unsorted += ranges.len() as u64,
@@ -103,10 +93,10 @@ fn count_left_out(bytes: &[u8], ranges: &[Bounds], left_out: &mut LeftOut) {
 }
 
 /// What rkyv reads of an accepted archive, and what document 01 says of it.
-fn readers<const N: usize>(
+fn readers(
     layout: Layout,
     bytes: &[u8],
-    accepted: &Accepted<N>,
+    accepted: &dyn Reads,
     sought: &[u64],
     ranges: &[Bounds],
 ) -> Result<(), String> {
@@ -136,8 +126,8 @@ fn readers<const N: usize>(
 }
 
 /// The entries of a certified archive that meet both bounds, and whose answer they are.
-fn matching<const N: usize>(
-    accepted: &Accepted<N>,
+fn matching(
+    accepted: &dyn Reads,
     lower: Bound<u64>,
     upper: Bound<u64>,
 ) -> (&'static str, Vec<(u64, u64)>) {

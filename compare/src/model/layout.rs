@@ -1,5 +1,7 @@
 //! The layout of an archive as a value: where the parts of its nodes stand, and the numbers in its fields.
 
+use std::ops::RangeInclusive;
+
 use crate::rkyv_map::WIDTH;
 
 /// How many bytes an offset or a count has, 2, 4 or 8, and how many entries a node has.
@@ -16,15 +18,26 @@ pub const COMMON: Layout = Layout {
 };
 
 /// The layout of rkyv's map as it is by default: 5 entries a node, and pointers of the bits that rkyv is built for here.
-pub const OWN: Layout = Layout {
-    width: WIDTH,
-    entries: 5,
-};
+pub const OWN: Layout = Layout::with(5);
+
+/// The numbers of entries a node that a layout has.
+pub const RANGE: RangeInclusive<usize> = 3..=15;
+
+/// Numbers that are none: 24 refuses each call that names one of them, before every other refusal.
+pub const OUTSIDE: [usize; 6] = [0, 1, 2, 16, 17, usize::MAX];
 
 /// Where the keys of a node stand, behind its kind.
 pub const KEYS: usize = 8;
 
 impl Layout {
+    /// The layout with so many entries a node and pointers of the bits that rkyv is built for here.
+    pub const fn with(entries: usize) -> Self {
+        Self {
+            width: WIDTH,
+            entries,
+        }
+    }
+
     /// Where the values of a node stand.
     pub const fn values(self) -> usize {
         KEYS + 8 * self.entries

@@ -3,8 +3,7 @@
 
 use super::{length, line, Question, WIDTH};
 use crate::building::Right;
-use crate::model::{self, OWN};
-use crate::rkyv_map::build_if_it_fits;
+use crate::model;
 
 /// What every byte of an output is before a build.
 const BEFORE: u8 = 165;
@@ -87,7 +86,7 @@ pub fn build(header: u64, room: Room, keys: &List, values: &List) -> Question {
 /// What is right for these lists behind a header, if no other refusal comes before 16.
 fn right(header: u64, keys: &[u64], values: &[u64]) -> Right {
     let header = vec![BEFORE; header as usize];
-    Right::of(OWN, build_if_it_fits::<5>, &header, keys, values)
+    Right::of(5, &header, keys, values)
 }
 
 /// How long an output has to be for so many entries: where rkyv's archive of others, as many, ends.

@@ -1,130 +1,150 @@
 //! The proved code's answers against rkyv's, and against the model's where rkyv has none.
 
-use crate::rkyv_map::Accepted;
+use crate::model::{Layout, OUTSIDE};
+use crate::oracle::Checked;
+use crate::ours::named::Named;
+use crate::ours::{self, At};
 use crate::trees::Random;
-use crate::{columns, model, ours};
+use crate::{columns, model};
 
 use super::lent::{lent, written, BEFORE};
 use super::{count, matching, same, Bounds};
 
-pub fn compare(
-    bytes: &[u8],
-    checked: &Result<Accepted, u8>,
-    entries: &[(u64, u64)],
-    sought: &[u64],
-    random: &mut Random,
-) -> Result<(), String> {
-    let count = count(checked);
-    let certified = model::certify(bytes);
-    same("check", ("rkyv", count), ("ours", ours::check(bytes)))?;
-    same(
-        "certify",
-        ("model", certified),
-        ("ours", ours::certify(bytes)),
-    )?;
-
-    let (mut keys, mut values) = lent(entries, random);
-    let (written, after) = written(entries, &keys, &values);
-    let answer = ours::walk(bytes, &mut keys, &mut values);
-    same(
-        "walk",
-        ("rkyv", (count.map(|count| (written, count)), after)),
-        ("ours", (answer, (keys, values))),
-    )?;
-
-    let mut found = Vec::new();
-    for &key in sought {
-        let entry = match checked {
-            Ok(accepted) => Ok(accepted.get(key)),
-            Err(number) => Err(*number),
-        };
-        let what = format!("lookup of {key}");
-        same(&what, ("rkyv", entry), ("ours", ours::lookup(bytes, key)))?;
-        let part = |(_, _, position)| &bytes[position..][..8];
-        let part = entry.map(|entry| entry.map_or(&bytes[..0], part));
-        let what = format!("the bytes of {key}");
-        let answer = ours::lookup_bytes(bytes, key);
-        same(&what, ("rkyv", part), ("ours", answer))?;
-        let entry = entry.ok().flatten();
-        found.push(entry.map_or(BEFORE, |entry| entry.1));
-    }
-
-    // As many places as keys, or fewer, or more: a key without a place is not looked up.
-    let mut values = vec![BEFORE; random.below(2 * sought.len() + 1)];
-    let mut after = values.clone();
-    for (place, value) in after.iter_mut().zip(&found) {
-        *place = *value;
-    }
-    let there = |key: &&u64| matches!(checked, Ok(accepted) if accepted.get(**key).is_some());
-    let number = count.map(|_| sought.iter().take(values.len()).filter(there).count() as u32);
-    let answer = ours::lookup_many(bytes, sought, &mut values);
-    same(
-        "lookup of many",
-        ("rkyv", (number, after)),
-        ("ours", (answer, values)),
-    )
+/// What is asked about an archive, and what is known of it: rkyv's check, the model's certify, and the list, which is empty where rkyv refuses.
+pub struct Asked<'a> {
+    pub layout: Layout,
+    pub bytes: &'a [u8],
+    pub checked: &'a Checked<'a>,
+    pub certified: Result<u32, u8>,
+    pub list: &'a [(u64, u64)],
 }
 
-/// The ranges of any archive: what certify refuses is refused with the same number, and nothing is written.
-pub fn compare_ranges(
-    bytes: &[u8],
-    checked: &Result<Accepted, u8>,
-    ranges: &[Bounds],
-    random: &mut Random,
-) -> Result<(), String> {
-    let certified = model::certify(bytes);
-    for &(lower, upper) in ranges {
-        let (source, entries) = match (checked, certified) {
-            (Ok(accepted), Ok(_)) => matching(accepted, lower, upper),
-            _ => ("model", Vec::new()),
-        };
-        let (mut keys, mut values) = lent(&entries, random);
-        let (written, after) = written(&entries, &keys, &values);
-        let numbers = certified.map(|_| (written, entries.len() as u64));
-        let answer = ours::range(bytes, lower, upper, &mut keys, &mut values);
+impl Asked<'_> {
+    fn ours(&self) -> At {
+        ours::at(self.layout)
+    }
+
+    /// Check, certify, walk and lookups.
+    pub fn compare(&self, sought: &[u64], random: &mut Random) -> Result<(), String> {
+        let (ours, bytes, certified) = (self.ours(), self.bytes, self.certified);
+        let count = count(self.checked);
+        same("check", ("rkyv", count), ("ours", ours.check(bytes)))?;
+        let answer = ours.certify(bytes);
+        same("certify", ("model", certified), ("ours", answer))?;
+
+        let (mut keys, mut values) = lent(self.list, random);
+        let (written, after) = written(self.list, &keys, &values);
+        let answer = ours.walk(bytes, &mut keys, &mut values);
         same(
-            &format!("range from {lower:?} to {upper:?}"),
-            (source, (numbers, after)),
+            "walk",
+            ("rkyv", (count.map(|count| (written, count)), after)),
             ("ours", (answer, (keys, values))),
         )?;
-    }
-    Ok(())
-}
+        let found = self.compare_lookups(sought)?;
 
-/// Column queries on any archive by both packings: as ranges between the keys of their ends, and by the fields of its keys; 18 comes after what
-/// certify refuses.
-pub fn compare_columns(
-    bytes: &[u8],
-    checked: &Result<Accepted, u8>,
-    list: &[(u64, u64)],
-    sought: &[u64],
-    random: &mut Random,
-) -> Result<(), String> {
-    let certified = model::certify(bytes);
-    for &key in sought {
-        for packing in model::PACKINGS {
-            let column = columns::about(key, packing, random);
-            let what = format!("{column:?}");
-            let bounds = certified.and_then(|_| model::column(column));
-            let (source, entries) = match (checked, bounds) {
-                (Ok(accepted), Ok((lower, upper))) => {
-                    let (source, entries) = matching(accepted, lower, upper);
-                    let chosen = list
-                        .iter()
-                        .filter(|entry| model::in_column(column, entry.0));
-                    let chosen: Vec<(u64, u64)> = chosen.copied().collect();
-                    same(&what, (source, &entries), ("its fields", &chosen))?;
-                    (source, entries)
-                }
+        // As many places as keys, or fewer, or more: a key without a place is not looked up.
+        let mut values = vec![BEFORE; random.below(2 * sought.len() + 1)];
+        let mut after = values.clone();
+        let mut number = 0;
+        for (place, value) in after.iter_mut().zip(&found) {
+            *place = value.unwrap_or(BEFORE);
+            number += u32::from(value.is_some());
+        }
+        let answer = ours.lookup_many(bytes, sought, &mut values);
+        same(
+            "lookup of many",
+            ("rkyv", (count.map(|_| number), after)),
+            ("ours", (answer, values)),
+        )
+    }
+
+    /// Lookup in both forms; gives the values that are found.
+    fn compare_lookups(&self, sought: &[u64]) -> Result<Vec<Option<u64>>, String> {
+        let (ours, bytes) = (self.ours(), self.bytes);
+        let mut found = Vec::new();
+        for &key in sought {
+            let entry = match self.checked {
+                Ok(accepted) => Ok(accepted.get(key)),
+                Err(number) => Err(*number),
+            };
+            let what = format!("lookup of {key}");
+            same(&what, ("rkyv", entry), ("ours", ours.lookup(bytes, key)))?;
+            let part = |(_, _, position)| &bytes[position..][..8];
+            let part = entry.map(|entry| entry.map_or(&bytes[..0], part));
+            let what = format!("the bytes of {key}");
+            let answer = ours.lookup_bytes(bytes, key);
+            same(&what, ("rkyv", part), ("ours", answer))?;
+            found.push(entry.ok().flatten().map(|entry| entry.1));
+        }
+        Ok(found)
+    }
+
+    /// Ranges: what certify refuses is refused with the same number, and nothing is written.
+    pub fn compare_ranges(&self, ranges: &[Bounds], random: &mut Random) -> Result<(), String> {
+        for &(lower, upper) in ranges {
+            let (source, entries) = match (self.checked, self.certified) {
+                (Ok(accepted), Ok(_)) => matching(&**accepted, lower, upper),
                 _ => ("model", Vec::new()),
             };
             let (mut keys, mut values) = lent(&entries, random);
             let (written, after) = written(&entries, &keys, &values);
-            let numbers = bounds.map(|_| (written, entries.len() as u64));
-            let answer = ours::column(bytes, column, &mut keys, &mut values);
-            let ours = (answer, (keys, values));
-            same(&what, (source, (numbers, after)), ("ours", ours))?;
+            let numbers = self.certified.map(|_| (written, entries.len() as u64));
+            let answer = self
+                .ours()
+                .range(self.bytes, lower, upper, &mut keys, &mut values);
+            same(
+                &format!("range from {lower:?} to {upper:?}"),
+                (source, (numbers, after)),
+                ("ours", (answer, (keys, values))),
+            )?;
         }
+        Ok(())
     }
-    Ok(())
+
+    /// Column queries by both packings: as ranges between the keys of their ends, and by the fields of its keys; 18 comes after what certify
+    /// refuses.
+    pub fn compare_columns(&self, sought: &[u64], random: &mut Random) -> Result<(), String> {
+        for &key in sought {
+            for packing in model::PACKINGS {
+                let column = columns::about(key, packing, random);
+                let what = format!("{column:?}");
+                let bounds = self.certified.and_then(|_| model::column(column));
+                let (source, entries) = match (self.checked, bounds) {
+                    (Ok(accepted), Ok((lower, upper))) => {
+                        let (source, entries) = matching(&**accepted, lower, upper);
+                        let mut chosen = self.list.to_vec();
+                        chosen.retain(|entry| model::in_column(column, entry.0));
+                        same(&what, (source, &entries), ("its fields", &chosen))?;
+                        (source, entries)
+                    }
+                    _ => ("model", Vec::new()),
+                };
+                let (mut keys, mut values) = lent(&entries, random);
+                let (written, after) = written(&entries, &keys, &values);
+                let numbers = bounds.map(|_| (written, entries.len() as u64));
+                let answer = self
+                    .ours()
+                    .column(self.bytes, column, &mut keys, &mut values);
+                let ours = (answer, (keys, values));
+                same(&what, (source, (numbers, after)), ("ours", ours))?;
+            }
+        }
+        Ok(())
+    }
+
+    /// Every call with a number of entries a node that 24 refuses, before all else, and nothing is written. Gives how many calls there were.
+    pub fn compare_outside(&self, sought: &[u64], random: &mut Random) -> Result<u64, String> {
+        let named = Named {
+            width: ours::bits(self.layout.width, random.number()),
+            entries: random.pick(&OUTSIDE),
+        };
+        let (mut keys, mut values) = lent(self.list, random);
+        let before = (keys.clone(), values.clone());
+        let answers = named.readers(self.bytes, sought, &mut keys, &mut values);
+        let what = format!("{named:?}");
+        let right = answers.map(|_| -24);
+        same(&what, ("right", right), ("ours", answers))?;
+        same(&what, ("before", before), ("after", (keys, values)))?;
+        Ok(answers.len() as u64)
+    }
 }

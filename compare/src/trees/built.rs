@@ -39,29 +39,55 @@ fn most(layout: Layout) -> usize {
     }
 }
 
-/// What rkyv builds of an ascending list at a layout: a tree with full levels but for the last, which is filled from
-/// the left.
+/// What rkyv builds of an ascending list at a layout, if every offset fits.
 pub fn complete(layout: Layout, header: &[u8], keys: &[u64], values: &[u64]) -> Vec<u8> {
-    let mut bytes = header.to_vec();
-    let mut root = None;
-    if !keys.is_empty() {
-        bytes.resize(bytes.len().next_multiple_of(8), 0);
-        // The nodes that the last level has room for: the levels above it are full.
-        let mut levels = 1;
-        let mut nodes = 1;
-        while nodes * (layout.entries + 1) <= keys.len() {
-            nodes *= layout.entries + 1;
-            levels += 1;
+    Complete::of(layout, header, keys, values).archive
+}
+
+/// A tree with full levels but for the last, which is filled from the left, by the second reading.
+pub struct Complete {
+    /// The archive with the header in front. An offset that does not fit is cut.
+    pub archive: Vec<u8>,
+    /// Where the root stands, if there is one.
+    pub root: Option<usize>,
+    /// Whether every offset fits.
+    pub fits: bool,
+}
+
+impl Complete {
+    pub fn of(layout: Layout, header: &[u8], keys: &[u64], values: &[u64]) -> Self {
+        let mut writer = Writer {
+            layout,
+            slots: keys.iter().copied().zip(values.iter().copied()),
+            bytes: header.to_vec(),
+            fits: true,
+        };
+        let mut root = None;
+        if !keys.is_empty() {
+            writer.align(8);
+            // The nodes that the last level has room for: the levels above it are full.
+            let mut levels = 1;
+            let mut nodes = 1;
+            while nodes * (layout.entries + 1) <= keys.len() {
+                nodes *= layout.entries + 1;
+                levels += 1;
+            }
+            let mut last_level = keys.len() - (nodes - 1);
+            let tree = shape(layout, levels, &mut last_level).expect("a root");
+            root = Some(writer.write(&tree));
         }
-        let mut last_level = keys.len() - (nodes - 1);
-        let tree = shape(layout, levels, &mut last_level).expect("a root");
-        let mut slots = keys.iter().copied().zip(values.iter().copied());
-        root = Some(write(layout, &tree, &mut slots, &mut bytes));
+        writer.align(layout.width);
+        let position = writer.bytes.len();
+        let to = root.unwrap_or(position + 1);
+        writer.leads(position, to);
+        let record = layout.record_at(position, to, keys.len() as u64);
+        writer.bytes.extend(record);
+        Self {
+            archive: writer.bytes,
+            root,
+            fits: writer.fits,
+        }
     }
-    bytes.resize(bytes.len().next_multiple_of(layout.width), 0);
-    let root = root.unwrap_or(bytes.len() + 1);
-    bytes.extend(layout.record_at(bytes.len(), root, keys.len() as u64));
-    bytes
 }
 
 /// The tree below a node with so many levels, its own among them, while so many entries are left for the last level.
@@ -79,39 +105,60 @@ fn shape(layout: Layout, levels: u32, last_level: &mut usize) -> Option<Tree> {
     }
 }
 
-/// Writes a tree, each node after its children, the slots in the order of a walk. Gives the position of the tree's own
-/// node.
-fn write(
+struct Writer<I> {
     layout: Layout,
-    tree: &Tree,
-    slots: &mut impl Iterator<Item = Slot>,
-    bytes: &mut Vec<u8>,
-) -> usize {
-    let mut positions = Vec::new();
-    let own: Vec<Slot> = match tree {
-        Tree::Leaf(count) => slots.take(*count as usize).collect(),
-        Tree::Inner(children) => {
-            let mut own = Vec::new();
-            for child in children {
-                let position = |child| write(layout, child, slots, bytes);
-                positions.push(child.as_ref().map(position));
-                if own.len() < layout.entries {
-                    own.extend(slots.next());
-                }
-            }
-            own
-        }
-    };
-    let position = bytes.len();
-    match tree {
-        Tree::Leaf(count) => {
-            bytes.resize(position + layout.leaf(), 0);
-            layout.put_leaf(&mut bytes[position..], (*count).into(), &own);
-        }
-        Tree::Inner(_) => {
-            bytes.resize(position + layout.inner(), 0);
-            layout.put_inner(&mut bytes[position..], position, &own, &positions);
-        }
+    /// The slots in the order of a walk.
+    slots: I,
+    bytes: Vec<u8>,
+    fits: bool,
+}
+
+impl<I: Iterator<Item = Slot>> Writer<I> {
+    /// Adds zeros up to the next multiple.
+    fn align(&mut self, alignment: usize) {
+        let length = self.bytes.len().next_multiple_of(alignment);
+        self.bytes.resize(length, 0);
     }
-    position
+
+    /// Notes a field that leads from one position to another.
+    fn leads(&mut self, from: usize, to: usize) {
+        let most = 1_i128 << (8 * self.layout.width - 1);
+        let distance = to as i128 - from as i128;
+        self.fits &= (-most..most).contains(&distance);
+    }
+
+    /// Writes a tree, each node after its children. Gives the position of the tree's own node.
+    fn write(&mut self, tree: &Tree) -> usize {
+        let layout = self.layout;
+        let children = match tree {
+            Tree::Leaf(count) => return self.leaf(*count),
+            Tree::Inner(children) => children,
+        };
+        let (mut own, mut positions) = (Vec::new(), Vec::new());
+        for child in children {
+            positions.push(child.as_ref().map(|child| self.write(child)));
+            if own.len() < layout.entries {
+                own.extend(self.slots.next());
+            }
+        }
+        let position = self.bytes.len();
+        for (index, to) in positions.iter().enumerate() {
+            if let Some(to) = to {
+                self.leads(layout.child(position, index), *to);
+            }
+        }
+        self.bytes.resize(position + layout.inner(), 0);
+        let node = &mut self.bytes[position..];
+        layout.put_inner(node, position, &own, &positions);
+        position
+    }
+
+    fn leaf(&mut self, count: u32) -> usize {
+        let own: Vec<Slot> = self.slots.by_ref().take(count as usize).collect();
+        let position = self.bytes.len();
+        self.bytes.resize(position + self.layout.leaf(), 0);
+        self.layout
+            .put_leaf(&mut self.bytes[position..], count.into(), &own);
+        position
+    }
 }
