@@ -8,11 +8,11 @@
 //!
 //! The input is a sequence of questions, all numbers little-endian. A question starts with its kind (u8), and 0 ends the file:
 //!
-//! - 1: the width of pointers (u8: 16, 32 or 64); the archive's length (u32) and the archive; the number of lookups (u32) and their keys (u64);
+//! - 1: the width of pointers (u8: 16, 32 or 64) and the entries a node (u8); the archive's length (u32) and the archive; the number of lookups (u32) and their keys (u64);
 //!   the number of ranges (u32) and of each the lower and the upper bound, a kind (u8: 0 included, 1 excluded, 2 unbounded) and a key (u64);
 //!   the number of column queries (u32) and of each the packing, examination (u32), eye (u8), a and b (i8).
-//! - 2: a build: the width of pointers (u8), the header's length (u64), the output's (u32), and the lists of keys and of values, each its length
-//!   (u32), its form (u8) and the numbers (form 0, u64), or the first number and the step to the next (form 1, u64).
+//! - 2: a build: the width of pointers and the entries a node (u8), the header's length (u64), the output's (u32), and the lists of keys and of
+//!   values, each its length (u32), its form (u8) and the numbers (form 0, u64), or the first number and the step to the next (form 1, u64).
 //! - 3 and 4: a signed difference and a 32-bit offset, from and to (u64). 5: an absent offset, at (u64). 6: an alignment step, position and
 //!   alignment (u64).
 //! - 7: a key to pack: packing, examination (u32), eye (u8), x and y (i8), presentation (u32). 8: a key to unpack: packing, key (u64). 9: a
@@ -45,8 +45,12 @@ use compare::rkyv_map::BITS;
 use compare::trees::Random;
 
 /// What rkyv has no answer to, and how the lines begin that have one.
-const NOT_RKYV: [(&str, &[&str]); 4] = [
+const NOT_RKYV: [(&str, &[&str]); 5] = [
     ("certify", &["certify "]),
+    (
+        "checks and builds refused by 24",
+        &["check refused 24", "build refused 24"],
+    ),
     (
         "builds refused by 10 to 14",
         &[
@@ -73,9 +77,9 @@ const SAMPLE: [usize; 3] = match BITS {
 /// offsets that do not fit 16 bits.
 const LONG: usize = 10_000;
 const OFTEN: &[RangeInclusive<usize>] = match BITS {
-    32 => &[2..=18],
-    16 => &[2..=14, 16..=16, 18..=18],
-    _ => &[2..=14, 18..=18],
+    32 => &[2..=18, 24..=24],
+    16 => &[2..=14, 16..=16, 18..=18, 24..=24],
+    _ => &[2..=14, 18..=18, 24..=24],
 };
 
 fn main() -> ExitCode {
@@ -209,7 +213,8 @@ fn print(written: &Before, lines: &[String]) {
     );
     println!("lines of text                       {text:9}");
     refusals(lines).print(2..=18);
-    println!("answered by document 01 only, not by rkyv:");
+    refusals(lines).print(24..=24);
+    println!("answered by the papers only, not by rkyv:");
     for (name, starts) in NOT_RKYV {
         let answered = |line: &&String| starts.iter().any(|start| line.starts_with(start));
         println!("  {name:34}{:9}", lines.iter().filter(answered).count());

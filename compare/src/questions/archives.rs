@@ -1,11 +1,12 @@
-//! Questions to the readers: rkyv answers check, walk, lookup and range; the model answers refusals 1, 8 and 9, column queries' bounds and
+//! Questions to the readers: rkyv answers check, walk, lookup and range; the model answers refusals 1, 8, 9 and 24, column queries' bounds and
 //! crossed ranges, where rkyv has no say.
 
 use std::ops::Bound;
 
-use super::{length, line, number, packed, Question, WIDTH};
-use crate::model::{self, Column, Packing, COMMON, OWN};
-use crate::rkyv_map::{Accepted, Archive};
+use super::{entries, length, line, number, packed, Question, WIDTH};
+use crate::model::{self, Column, Layout, Packing, COMMON, OWN, RANGE};
+use crate::oracle::{self, Reads};
+use crate::rkyv_map::Archive;
 use crate::trees::{self, Random};
 use crate::{cases, columns};
 
@@ -13,39 +14,20 @@ use crate::{cases, columns};
 const LONGEST: usize = 65_536;
 /// Places of each lent list.
 const ROOM: usize = 64;
-/// Generated archives by certify's answer, at 0 the certified ones: how many are taken, and how long they may be. Those nested too deep, 5,
-/// are longer than the others; 1 is left out.
-const TAKEN: [(u32, usize); 10] = match WIDTH {
-    32 => MANY,
-    _ => FEWER,
-};
-const MANY: [(u32, usize); 10] = [
-    (100, 1_500),
-    (0, 0),
-    (60, 1_200),
-    (40, 1_200),
-    (30, 1_200),
-    (10, 2_400),
-    (40, 1_200),
-    (40, 1_200),
-    (40, 1_200),
-    (40, 1_200),
-];
-const FEWER: [(u32, usize); 10] = [
-    (14, 1_500),
-    (0, 0),
-    (8, 1_200),
-    (6, 1_200),
-    (4, 1_200),
-    (3, 2_400),
-    (6, 1_200),
-    (6, 1_200),
-    (6, 1_200),
-    (6, 1_200),
+/// Generated archives by certify's answer, at 0 the certified ones: how many are taken of 5 entries a node, at 32 bits and at the others, of 3
+/// and of 15, and of each other number. 1 is left out.
+const MANY: [u32; 10] = [60, 0, 35, 25, 20, 6, 25, 25, 25, 25];
+const FEWER: [u32; 10] = [6, 0, 3, 2, 2, 1, 2, 2, 2, 2];
+const ENDS: [u32; 10] = [4, 0, 2, 2, 1, 1, 2, 2, 2, 2];
+/// How long they may be with 5 entries a node, longer with more. Those nested too deep, 5, are longer than the others.
+const LENGTHS: [usize; 10] = [
+    1_500, 0, 1_200, 1_200, 1_200, 2_400, 1_200, 1_200, 1_200, 1_200,
 ];
 
 /// An archive and what is asked of it.
 pub struct Case {
+    /// The entries a node that the calls are given.
+    pub entries: usize,
     pub archive: Vec<u8>,
     pub keys: Vec<u64>,
     pub ranges: Vec<(Bound<u64>, Bound<u64>)>,
@@ -65,13 +47,13 @@ pub fn longest() -> Vec<String> {
 }
 
 /// Document 01's archives, each asked for all its keys, all its entries and the range of case *4; with pointers of 32 bits archives of packed
-/// keys; then generated ones in the order of their seeds, until there are enough of each kind.
+/// keys; then generated ones of 5 entries a node, of 3, of 15, one of each other number, and two with a number that 24 refuses.
 pub fn all() -> Vec<Question> {
     let random = &mut Random::new(0);
     let mut asked = Vec::new();
     for case in cases::all() {
-        let keys = keys_of(&case.archive);
-        let mut case = ask(case.archive, random);
+        let keys = keys_of(OWN, &case.archive);
+        let mut case = ask(OWN.entries, case.archive, random);
         case.keys.extend(keys);
         case.ranges.push((Bound::Unbounded, Bound::Unbounded));
         case.ranges.push((Bound::Excluded(3), Bound::Excluded(3)));
@@ -80,48 +62,92 @@ pub fn all() -> Vec<Question> {
     if OWN == COMMON {
         asked.extend(packed::all());
     }
-    let mut wanted = TAKEN;
-    for seed in 0.. {
-        let archive = trees::archive(seed);
-        let kind = model::certify(&archive).map_or_else(usize::from, |_| 0);
-        let (more, longest) = &mut wanted[kind];
-        if *more > 0 && archive.len() <= *longest {
-            *more -= 1;
-            asked.push(ask(archive, random));
-        }
-        if wanted.iter().all(|(more, _)| *more == 0) {
-            break;
-        }
+    let own = if OWN == COMMON { MANY } else { FEWER };
+    asked.extend(generated(OWN.entries, own, random));
+    for entries in [3, 15] {
+        asked.extend(generated(entries, ENDS, random));
     }
-
+    for entries in RANGE.filter(|entries| ![3, 5, 15].contains(entries)) {
+        // A certified archive, or one refused by each number in turn.
+        let mut one = [0; 10];
+        one[[0, 6, 2, 0, 7, 8, 0, 9, 6, 3][entries % 10]] = 1;
+        asked.extend(generated(entries, one, random));
+    }
+    for entries in [2, 16] {
+        asked.push(ask(
+            entries,
+            cases::all().pop().expect("some").archive,
+            random,
+        ));
+    }
     asked.iter().map(Case::question).collect()
 }
 
-/// The archives of so many seeds that the program has room for, each with a few questions.
-pub fn random(number: usize, seed: u64) -> Vec<Question> {
-    let random = &mut Random::new(seed);
-    let archives = (seed..seed + number as u64).map(trees::archive);
-    let short = archives.filter(|archive| archive.len() <= LONGEST);
-    short
-        .map(|archive| ask(archive, random).question())
-        .collect()
+/// Generated archives of so many entries a node in the order of their seeds, until there are as many of each kind as wanted.
+fn generated(entries: usize, mut wanted: [u32; 10], random: &mut Random) -> Vec<Case> {
+    let layout = Layout::with(entries);
+    let mut asked = Vec::new();
+    for seed in 0.. {
+        if wanted == [0; 10] {
+            break;
+        }
+        let archive = trees::archive_at(layout, seed, trees::LONG);
+        let kind = layout.certify(&archive).map_or_else(usize::from, |_| 0);
+        let longest = LENGTHS[kind] * layout.inner() / OWN.inner();
+        if wanted[kind] > 0 && archive.len() <= longest {
+            wanted[kind] -= 1;
+            asked.push(ask(entries, archive, random));
+        }
+    }
+    asked
 }
 
-fn keys_of(archive: &[u8]) -> Vec<u64> {
-    if model::check(archive).is_err() {
+/// The archives of so many seeds that the program has room for, each with a few questions. Where 24 refuses the entries a node, the archive has
+/// 5.
+pub fn random(number: usize, seed: u64) -> Vec<Question> {
+    let random = &mut Random::new(seed);
+    let mut questions = Vec::new();
+    for seed in seed..seed + number as u64 {
+        let entries = entries(random);
+        let layout = if RANGE.contains(&entries) {
+            Layout::with(entries)
+        } else {
+            OWN
+        };
+        let archive = trees::archive_at(layout, seed, trees::LONG);
+        if archive.len() <= LONGEST {
+            questions.push(ask(entries, archive, random).question());
+        }
+    }
+    questions
+}
+
+fn keys_of(layout: Layout, archive: &[u8]) -> Vec<u64> {
+    if layout.check(archive).is_err() {
         return Vec::new();
     }
-    model::list(archive).iter().map(|entry| entry.key).collect()
+    let list = layout.list(archive);
+    list.iter().map(|entry| entry.key).collect()
+}
+
+/// What check and certify answer with so many entries a node, by the model.
+fn certified(entries: usize, archive: &[u8]) -> (Result<u64, u8>, Result<u64, u8>) {
+    match RANGE.contains(&entries) {
+        true => {
+            let layout = Layout::with(entries);
+            (layout.check(archive), layout.certify(archive))
+        }
+        false => (Err(24), Err(24)),
+    }
 }
 
 /// A few questions about an archive: more if it is accepted, most if it is certified; and four columns, one whose bounds cross, one that 18
 /// refuses, and by each packing one about a key that is looked up.
-fn ask(archive: Vec<u8>, random: &mut Random) -> Case {
-    let keys = keys_of(&archive);
-    let (lookups, ranges) = match (model::check(&archive), model::certify(&archive)) {
-        (_, Ok(_)) => (8, 5),
-        (Ok(_), Err(_)) => (8, 1),
-        (Err(_), Err(_)) => (1, 1),
+fn ask(entries: usize, archive: Vec<u8>, random: &mut Random) -> Case {
+    let (keys, lookups, ranges) = match certified(entries, &archive) {
+        (_, Ok(_)) => (keys_of(Layout::with(entries), &archive), 8, 5),
+        (Ok(_), Err(_)) => (keys_of(Layout::with(entries), &archive), 8, 1),
+        (Err(_), Err(_)) => (Vec::new(), 1, 1),
     };
     let sought = trees::sought(&keys, lookups, random);
     let column = |eye| Column {
@@ -135,6 +161,7 @@ fn ask(archive: Vec<u8>, random: &mut Random) -> Case {
     let about = |packing| columns::about(key, packing, &mut Random::new(key));
     let [old, new] = model::PACKINGS.map(about);
     Case {
+        entries,
         keys: sought,
         ranges: (0..ranges).map(|_| trees::bounds(&keys, random)).collect(),
         columns: vec![column(0), column(2), old, new],
@@ -151,7 +178,7 @@ impl Case {
     }
 
     fn bytes(&self) -> Vec<u8> {
-        let mut bytes = vec![1, WIDTH];
+        let mut bytes = vec![1, WIDTH, self.entries as u8];
         bytes.extend(length(self.archive.len()));
         bytes.extend(&self.archive);
         bytes.extend(length(self.keys.len()));
@@ -178,11 +205,15 @@ impl Case {
     }
 
     fn lines(&self) -> Vec<String> {
-        let archive = Archive::copy(&self.archive);
-        match archive.check() {
-            Ok(accepted) => self.accepted(&accepted),
-            Err(number) => self.refused(number),
+        if !RANGE.contains(&self.entries) {
+            return self.refused(24);
         }
+        let archive = Archive::copy(&self.archive);
+        let lines = match oracle::check(self.entries, &archive) {
+            Ok(accepted) => self.accepted(&*accepted),
+            Err(number) => self.refused(number),
+        };
+        lines
     }
 
     /// Every call is refused with the same number; only lookup's second form gives the empty part.
@@ -197,8 +228,8 @@ impl Case {
         lines
     }
 
-    fn accepted(&self, accepted: &Accepted) -> Vec<String> {
-        let fault = model::fault(&self.archive);
+    fn accepted(&self, accepted: &dyn Reads) -> Vec<String> {
+        let fault = Layout::with(self.entries).fault(&self.archive);
         let count = accepted.count();
         let certified = fault.map_or(Ok(count), Err);
         let mut lines = vec![format!("check {count}")];
@@ -232,7 +263,7 @@ impl Case {
 /// The entries of a certified archive that meet both bounds, or the refusal.
 fn range(
     call: &str,
-    accepted: &Accepted,
+    accepted: &dyn Reads,
     bounds: Result<(Bound<u64>, Bound<u64>), u8>,
 ) -> Vec<String> {
     let (lower, upper) = match bounds {
@@ -247,7 +278,7 @@ fn range(
 }
 
 /// A column query's answer by the fields of the keys, without its bounds.
-fn by_fields(accepted: &Accepted, column: Column) -> Vec<String> {
+fn by_fields(accepted: &dyn Reads, column: Column) -> Vec<String> {
     let mut entries = accepted.visit();
     entries.retain(|entry| model::in_column(column, entry.0));
     written("column", &entries, entries.len())

@@ -1,9 +1,9 @@
-//! A question to the builder: rkyv's archive, byte for byte by its checksum, or 16 where rkyv panics; document 01 answers 10 to 14, which are
-//! ours alone.
+//! A question to the builder: rkyv's archive, byte for byte by its checksum, or 16 where rkyv panics since an offset does not fit; the papers
+//! answer 10 to 14 and 24, which are ours alone.
 
 use super::{length, line, Question, WIDTH};
 use crate::building::Right;
-use crate::model;
+use crate::model::{self, RANGE};
 
 /// What every byte of an output is before a build.
 const BEFORE: u8 = 165;
@@ -17,6 +17,13 @@ pub enum List {
 }
 
 impl List {
+    fn length(&self) -> usize {
+        match self {
+            List::Numbers(numbers) => numbers.len(),
+            List::Steps(length, _, _) => *length,
+        }
+    }
+
     fn numbers(&self) -> Vec<u64> {
         match self {
             List::Numbers(numbers) => numbers.clone(),
@@ -49,29 +56,32 @@ pub enum Room {
     Past(isize),
 }
 
-/// The question, and what must be printed of it.
-pub fn build(header: u64, room: Room, keys: &List, values: &List) -> Question {
+/// The question with so many entries a node, and what must be printed of it.
+pub fn build(entries: usize, header: u64, room: Room, keys: &List, values: &List) -> Question {
     let (given_keys, given_values) = (keys.numbers(), values.numbers());
-    let right = || right(header, &given_keys, &given_values);
+    let (outside, unequal) = (!RANGE.contains(&entries), keys.length() != values.length());
+    let right = || right(entries, header, &given_keys, &given_values);
     let room = match room {
         Room::Of(length) => length,
         // Where a list is refused before it could be built, any length will do.
-        Room::Past(_) if given_keys.len() != given_values.len() => 512,
+        Room::Past(_) if outside || unequal => 512,
         Room::Past(more) => right().end.saturating_add_signed(more),
     };
     let end = || right().end;
-    let fault = model::build_fault(&given_keys, &given_values, header, end, room);
+    let fault = match outside {
+        true => Some(24),
+        false => model::build_fault(&given_keys, &given_values, header, end, room),
+    };
 
-    let mut bytes = vec![2, WIDTH];
+    let mut bytes = vec![2, WIDTH, entries as u8];
     bytes.extend(header.to_le_bytes());
     bytes.extend(length(room));
     keys.put(&mut bytes);
     values.put(&mut bytes);
 
     let mut output = vec![BEFORE; room];
-    let mut lines = vec![line("length", needed(given_keys.len(), header), |end| {
-        end.to_string()
-    })];
+    let needed = needed(entries, given_keys.len(), header);
+    let mut lines = vec![line("length", needed, |end| end.to_string())];
     let answer = fault.map_or_else(|| right().archive, Err);
     if let Ok(archive) = &answer {
         output[..archive.len()].copy_from_slice(archive);
@@ -84,13 +94,16 @@ pub fn build(header: u64, room: Room, keys: &List, values: &List) -> Question {
 }
 
 /// What is right for these lists behind a header, if no other refusal comes before 16.
-fn right(header: u64, keys: &[u64], values: &[u64]) -> Right {
+fn right(entries: usize, header: u64, keys: &[u64], values: &[u64]) -> Right {
     let header = vec![BEFORE; header as usize];
-    Right::of(5, &header, keys, values)
+    Right::of(entries, &header, keys, values)
 }
 
-/// How long an output has to be for so many entries: where rkyv's archive of others, as many, ends.
-fn needed(count: usize, header: u64) -> Result<usize, u8> {
+/// How long an output has to be for so many entries: where the archive of others, as many, ends.
+fn needed(entries: usize, count: usize, header: u64) -> Result<usize, u8> {
+    if !RANGE.contains(&entries) {
+        return Err(24);
+    }
     if count > 40_000 {
         return Err(11);
     }
@@ -98,7 +111,7 @@ fn needed(count: usize, header: u64) -> Result<usize, u8> {
         return Err(13);
     }
     let numbers: Vec<u64> = (0..count as u64).collect();
-    let right = right(header, &numbers, &numbers);
+    let right = right(entries, header, &numbers, &numbers);
     right.archive.map(|archive| archive.len())
 }
 

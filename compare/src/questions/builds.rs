@@ -1,16 +1,23 @@
 //! Questions to the builder, as `build` makes them of lists, headers and outputs.
 
-use super::build::{build, List, Room};
-use super::{Question, WIDTH};
-use crate::model::{COMMON, OWN};
+use super::build::{build as at, List, Room};
+use super::{entries as entries_a_node, Question, WIDTH};
+use crate::building::most_at_16;
+use crate::model::{COMMON, OWN, RANGE};
 use crate::trees::Random;
 
 pub use super::build::checksum;
 
-/// The most entries whose offsets fit 16 bits.
+/// The most entries whose offsets fit 16 bits, with 5 a node.
 const MOST_AT_16: usize = 2_970;
 
-/// Document 01's builds, the ends of keys and values, others of all kinds, and calls that are refused, also with several faults at once.
+/// A question with 5 entries a node.
+fn build(header: u64, room: Room, keys: &List, values: &List) -> Question {
+    at(OWN.entries, header, room, keys, values)
+}
+
+/// Document 01's builds, the ends of keys and values, others of all kinds, and calls that are refused, also with several faults at once; then
+/// builds of other numbers of entries a node.
 pub fn all() -> Vec<Question> {
     let random = &mut Random::new(2);
     let mut questions = named();
@@ -22,6 +29,51 @@ pub fn all() -> Vec<Question> {
     if WIDTH == 16 {
         questions.extend(far());
     }
+    questions.extend(other_entries(random));
+    questions
+}
+
+/// Builds of 3 and 15 entries a node and of each other number, about a height's first; the most that 16 bits take, also where the root stands
+/// past them; and calls that 24 refuses, also with every other fault.
+fn other_entries(random: &mut Random) -> Vec<Question> {
+    let mut questions = Vec::new();
+    for entries in RANGE.filter(|entries| *entries != OWN.entries) {
+        let (full, next) = (entries * (entries + 2), (entries + 1) * (entries + 1));
+        let counts = match entries {
+            3 | 15 if OWN == COMMON => vec![entries, entries + 1, full, next],
+            3 | 15 => vec![entries + 1, next],
+            _ if OWN == COMMON || entries % 2 == 0 => vec![next],
+            _ => vec![],
+        };
+        for count in counts {
+            let header = random.pick(&[0, 1, 4, 5, 8, 17]);
+            questions.push(some(entries, header, count, random));
+        }
+    }
+    match WIDTH {
+        16 => questions.extend(other_entries_at_16()),
+        _ => questions.push(larger(15, 40_000, random)),
+    }
+    let (six, five, more) = (count_up(6), count_up(5), List::Steps(40_001, 7, 0));
+    questions.push(at(2, 0, Room::Of(512), &six, &six));
+    questions.push(at(16, 4_097, Room::Of(0), &more, &five));
+    if OWN == COMMON {
+        questions.push(at(0, 4_097, Room::Of(8_192), &six, &six));
+        questions.push(at(255, 0, Room::Of(0), &six, &six));
+    }
+    questions
+}
+
+/// The last that 16 bits take with 3, 11 and 15 entries a node, and with 3 and 15 the first that they do not.
+fn other_entries_at_16() -> Vec<Question> {
+    let most = |entries| List::Steps(most_at_16(entries), 1, 1);
+    let more = |entries| List::Steps(most_at_16(entries) + 1, 1, 1);
+    let fits = Room::Past(0);
+    let mut questions = vec![at(11, 4_096, fits, &most(11), &most(11))];
+    for entries in [3, 15] {
+        questions.push(at(entries, 0, fits, &most(entries), &most(entries)));
+        questions.push(at(entries, 0, fits, &more(entries), &more(entries)));
+    }
     questions
 }
 
@@ -30,17 +82,17 @@ fn many(random: &mut Random) -> Vec<Question> {
     let mut questions = Vec::new();
     for count in 0..=45 {
         let header = random.pick(&[0, 1, 4, 5, 8, 17, 31]);
-        questions.push(some(header, count, random));
+        questions.push(some(5, header, count, random));
     }
-    for count in [214, 215, 216, 217] {
-        questions.push(some(0, count, random));
+    for count in [215, 216] {
+        questions.push(some(5, 0, count, random));
     }
     for header in (0..=17).chain([4_095, 4_096]) {
-        questions.push(some(header, 6, random));
-        questions.push(some(header, 0, random));
+        let count = if header % 2 == 0 { 6 } else { 0 };
+        questions.push(some(5, header, count, random));
     }
-    for count in [258, 1_295, 1_296, 7_775, 7_776, 39_999, 40_000] {
-        questions.push(larger(count, random));
+    for count in [1_295, 1_296, 7_775, 7_776, 39_999, 40_000] {
+        questions.push(larger(5, count, random));
     }
     questions
 }
@@ -50,14 +102,14 @@ fn fewer(random: &mut Random) -> Vec<Question> {
     let mut questions = Vec::new();
     for count in [4, 5, 6, 7, 11, 12, 34, 35, 36, 37, 215, 216] {
         let header = random.pick(&[0, 1, 2, 4, 5, 8, 17]);
-        questions.push(some(header, count, random));
+        questions.push(some(5, header, count, random));
     }
     for header in (1..=9).chain([4_095, 4_096]) {
-        questions.push(some(header, 0, random));
+        questions.push(some(5, header, 0, random));
     }
     let last = if WIDTH == 16 { MOST_AT_16 } else { 40_000 };
     for count in [1_295, 1_296, last] {
-        questions.push(larger(count, random));
+        questions.push(larger(5, count, random));
     }
     questions
 }
@@ -67,26 +119,27 @@ fn fewer(random: &mut Random) -> Vec<Question> {
 pub fn random(number: usize, random: &mut Random) -> Vec<Question> {
     let builds = (0..number).map(|_| {
         let (count, header) = (random.below(41), random.below(24) as u64);
-        if WIDTH == 16 && random.one_in(32) {
-            let count = MOST_AT_16 - 10 + random.below(21);
+        let entries = entries_a_node(random);
+        if WIDTH == 16 && RANGE.contains(&entries) && random.one_in(32) {
+            let count = most_at_16(entries) - 10 + random.below(21);
             let keys = List::Steps(count, random.number() >> 32, 1 + random.number() % 1_000);
             let room = random.pick(&[Room::Past(0), Room::Past(9), Room::Past(-1), Room::Of(0)]);
-            build(header, room, &keys, &keys)
+            at(entries, header, room, &keys, &keys)
         } else if random.one_in(4) {
-            faulty(header, count, random)
+            faulty(entries, header, count, random)
         } else {
-            some(header, count, random)
+            some(entries, header, count, random)
         }
     });
     builds.collect()
 }
 
 /// The build of as many entries, a list in steps, in an output that goes on past the archive.
-fn larger(count: usize, random: &mut Random) -> Question {
+fn larger(entries: usize, count: usize, random: &mut Random) -> Question {
     let past = random.below(40) as isize;
     let keys = List::Steps(count, 3, 5);
     let values = List::Steps(count, u64::MAX, random.number());
-    build(3, Room::Past(past), &keys, &values)
+    at(entries, 3, Room::Past(past), &keys, &values)
 }
 
 /// Builds whose offsets do not fit 16 bits, and the last that do: 16 comes after 14, and after all others.
@@ -114,8 +167,8 @@ fn far() -> Vec<Question> {
 }
 
 /// A build with one of the faults 10 to 14, or with two.
-fn faulty(mut header: u64, count: usize, random: &mut Random) -> Question {
-    let (mut keys, mut values) = entries(count, random);
+fn faulty(entries: usize, mut header: u64, count: usize, random: &mut Random) -> Question {
+    let (mut keys, mut values) = lists(count, random);
     let mut room = 4_096 + 24 * count + 200;
     for _ in 0..random.pick(&[1, 1, 2]) {
         match random.below(5) {
@@ -124,14 +177,14 @@ fn faulty(mut header: u64, count: usize, random: &mut Random) -> Question {
             2 => {
                 let many = 40_001 + random.below(2);
                 let list = List::Steps(many, 1, 1);
-                return build(header, Room::Of(room), &list, &list);
+                return at(entries, header, Room::Of(room), &list, &list);
             }
             3 => header = 4_097 + random.number() % 3,
             _ => room = random.below(header.min(4_096) as usize + 8),
         }
     }
     let (keys, values) = (List::Numbers(keys), List::Numbers(values));
-    build(header, Room::Of(room), &keys, &values)
+    at(entries, header, Room::Of(room), &keys, &values)
 }
 
 fn count_up(count: usize) -> List {
@@ -161,7 +214,7 @@ fn named() -> Vec<Question> {
 }
 
 /// As many ascending keys with gaps of any size, and values.
-fn entries(count: usize, random: &mut Random) -> (Vec<u64>, Vec<u64>) {
+fn lists(count: usize, random: &mut Random) -> (Vec<u64>, Vec<u64>) {
     let widest = u64::MAX / (count as u64 + 1);
     let mut key = random.number() % widest;
     let (mut keys, mut values) = (Vec::new(), Vec::new());
@@ -174,10 +227,11 @@ fn entries(count: usize, random: &mut Random) -> (Vec<u64>, Vec<u64>) {
 }
 
 /// The build of as many entries, behind a header, in an output that goes on past the archive.
-fn some(header: u64, count: usize, random: &mut Random) -> Question {
-    let (keys, values) = entries(count, random);
+fn some(entries: usize, header: u64, count: usize, random: &mut Random) -> Question {
+    let (keys, values) = lists(count, random);
     let room = Room::Past(random.below(24) as isize);
-    build(header, room, &List::Numbers(keys), &List::Numbers(values))
+    let (keys, values) = (List::Numbers(keys), List::Numbers(values));
+    at(entries, header, room, &keys, &values)
 }
 
 /// Calls that 10 to 14 refuse, and the last that each lets through.

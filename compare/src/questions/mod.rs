@@ -9,9 +9,22 @@ pub mod parts;
 
 use crate::model::Packing;
 use crate::rkyv_map::BITS;
+use crate::trees::Random;
 
 /// The width of pointers, as the input has it.
 const WIDTH: u8 = BITS as u8;
+
+/// The entries a node of generated archives and builds: each number that a layout has, 3 and 15 more often, 5 most; and those at the ends of what
+/// 24 refuses.
+fn entries(random: &mut Random) -> usize {
+    match random.below(16) {
+        0..=5 => 5,
+        6..=8 => 3,
+        9..=11 => 15,
+        12..=14 => 3 + random.below(13),
+        _ => random.pick(&[0, 1, 2, 16, 17, 255]),
+    }
+}
 
 /// A question's bytes, its kind first, and the lines of its answer.
 pub struct Question {

@@ -3,7 +3,7 @@
 use std::ops::Bound;
 
 use super::archives::Case;
-use crate::model::{self, Column, KeyFields, Packing, PACKINGS};
+use crate::model::{self, Column, KeyFields, Packing, OWN, PACKINGS};
 use crate::rkyv_map;
 
 /// The ends of x and y, and the two sides of 0.
@@ -115,6 +115,7 @@ fn case(packing: Packing, points: Vec<KeyFields>, columns: Vec<Column>) -> Case 
         .map(|index| 1 << 63 | index << 53)
         .collect();
     Case {
+        entries: OWN.entries,
         archive: rkyv_map::build(&[], &keys, &values),
         keys: vec![keys[0], keys[40]],
         ranges: vec![(Bound::Included(keys[3]), Bound::Excluded(keys[60]))],
