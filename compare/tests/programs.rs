@@ -14,40 +14,69 @@ fn run(program: &str, arguments: &[&str]) -> Output {
         .expect("cargo has built the program")
 }
 
-/// Some thousands of generated archives show no difference, and every refusal of check and certify among them.
+/// The number in the line of a program's text that starts so.
+fn counted(text: &str, name: &str) -> u32 {
+    let line = text.lines().find(|line| line.starts_with(name));
+    line.expect(name)[name.len()..].trim().parse().unwrap()
+}
+
+/// Some thousands of generated archives of 3, 5 and 15 entries a node show no difference, and every refusal of check and certify among them.
 #[test]
 fn generated_archives() {
-    let output = run(env!("CARGO_BIN_EXE_compare"), &["4000"]);
-    let text = String::from_utf8(output.stdout).unwrap();
-    assert!(output.status.success(), "{text}");
-    for number in 2..=9 {
-        let name = format!("refused by {number:2}");
-        let line = text.lines().find(|line| line.starts_with(&name)).unwrap();
-        let count: u32 = line[name.len()..].trim().parse().unwrap();
-        assert!(count >= 50, "{text}");
+    for entries in ["3", "5", "15"] {
+        let output = run(env!("CARGO_BIN_EXE_compare"), &["4000", "0", entries]);
+        let text = String::from_utf8(output.stdout).unwrap();
+        assert!(output.status.success(), "{text}");
+        for number in 2..=9 {
+            let count = counted(&text, &format!("refused by {number:2}"));
+            assert!(count >= 50, "{text}");
+        }
+        let calls = counted(&text, "  calls refused by 24");
+        assert_eq!(calls > 0, cfg!(feature = "ours"), "{text}");
     }
 }
 
-/// What is built shows no difference: 20 smaller numbers of entries, and 4 larger ones where offsets fit, each behind 20 headers.
+/// What is built shows no difference with each number of entries a node: 20 smaller numbers of entries, those about each height's first, and
+/// the largest, where offsets fit, each behind 20 headers. rkyv panics alone at 11 entries a node and 16 bits behind the longest two.
 #[cfg(feature = "ours")]
 #[test]
 fn built_archives() {
-    let output = run(env!("CARGO_BIN_EXE_builds"), &["19"]);
-    let text = String::from_utf8(output.stdout).unwrap();
-    assert!(output.status.success(), "{text}");
-    let built = text
-        .lines()
-        .find(|line| line.starts_with("archives compared"));
-    let built = built.unwrap().split_whitespace().last();
-    let right = if BITS == 16 { "400" } else { "480" };
-    assert_eq!(built, Some(right), "{text}");
+    for entries in compare::model::RANGE {
+        let output = run(
+            env!("CARGO_BIN_EXE_builds"),
+            &["19", "0", &entries.to_string()],
+        );
+        let text = String::from_utf8(output.stdout).unwrap();
+        assert!(output.status.success(), "{text}");
+        let heights = (1..).map(|height| (entries + 1).pow(height));
+        let heights = heights.take_while(|count| *count <= 40_000);
+        let mut larger: Vec<usize> = heights.flat_map(|count| [count - 1, count]).collect();
+        larger.extend([39_999, 40_000]);
+        if BITS == 16 {
+            let most = compare::building::most_at_16(entries);
+            larger.retain(|count| *count < most);
+            larger.push(most);
+        }
+        let lists = 20 + larger.iter().filter(|count| **count > 19).count();
+        let built = counted(&text, "archives compared");
+        assert_eq!(built as usize, 20 * lists, "{text}");
+        let alone = counted(&text, "of these with offsets that fit");
+        let right = if (BITS, entries) == (16, 11) { 2 } else { 0 };
+        assert_eq!(alone, right, "{text}");
+        assert!(counted(&text, "refused by 24") > 100, "{text}");
+    }
 }
 
 /// No call reads or writes outside what it is lent, beside pages that fault and in allocations.
 #[cfg(feature = "ours")]
 #[test]
 fn guarded_archives() {
-    for arguments in [&["2000"][..], &["300", "0", "heap"]] {
+    for arguments in [
+        &["2000"][..],
+        &["1000", "0", "3"],
+        &["1000", "0", "15"],
+        &["300", "0", "5", "heap"],
+    ] {
         let output = run(env!("CARGO_BIN_EXE_guarded"), arguments);
         let text = String::from_utf8(output.stdout).unwrap();
         assert!(output.status.success(), "{text}");
@@ -82,7 +111,7 @@ fn sample() {
     let (bytes, text) = answers(&[]);
     assert!(bytes.len() < if BITS == 32 { 400_000 } else { 150_000 });
     let has = |line: &str| text.lines().any(|found| found == line);
-    let refusals: [(&[&str], &[u8]); 5] = [
+    let refusals: [(&[&str], &[u8]); 6] = [
         (
             &["check", "certify", "walk", "lookup", "range", "column"],
             &[2, 3, 4, 5, 6, 7],
@@ -90,7 +119,13 @@ fn sample() {
         (&["certify", "range", "column"], &[8, 9]),
         (&["column"], &[18]),
         (&["build"], &[10, 11, 12, 13, 14]),
-        (&["length"], &[11, 13]),
+        (&["length"], &[11, 13, 24]),
+        (
+            &[
+                "check", "certify", "walk", "lookup", "range", "column", "build",
+            ],
+            &[24],
+        ),
     ];
     for (calls, numbers) in refusals {
         for call in calls {
@@ -175,7 +210,7 @@ fn random_sample() {
     let (one, again) = (answers(&["300", "5"]), answers(&["300", "5"]));
     assert!(one == again);
     assert!(one != answers(&["300", "6"]));
-    for number in 2..=18 {
+    for number in (2..=18).chain([24]) {
         let refused = format!(" refused {number}");
         let comes_up = one.1.lines().any(|line| line.ends_with(&refused));
         let part = matches!(number, 15 | 17) && BITS != 32 || number == 16 && BITS == 64;

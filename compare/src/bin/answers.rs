@@ -69,9 +69,9 @@ const NOT_RKYV: [(&str, &[&str]); 5] = [
 ];
 /// The sample for the gate has at least this many archives, builds, and parts and keys.
 const SAMPLE: [usize; 3] = match BITS {
-    32 => [468, 136, 475],
-    16 => [123, 77, 0],
-    _ => [123, 65, 0],
+    32 => [432, 136, 475],
+    16 => [152, 94, 0],
+    _ => [152, 78, 0],
 };
 /// A random sample of this many archives must have each of these refusals often enough: 15 and 17 are of parts only, and 16 is of a part or of
 /// offsets that do not fit 16 bits.

@@ -101,7 +101,9 @@ fn measure_readers(archive: &Archive, keys: &[u64]) {
     row(entries, "check and walk", times);
     let lookups = proved!(|lent: &mut Lent| {
         let bytes = black_box(archive.bytes());
-        ours::lookup_many(bytes, &sought, &mut lent.values).unwrap() as usize
+        ours::at(OWN)
+            .lookup_many(bytes, &sought, &mut lent.values)
+            .unwrap() as usize
     });
     let times = best(LOOKUPS, lookups, |lent| {
         look_up(accepted::<5>(archive).map(), &sought, lent)

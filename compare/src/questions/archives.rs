@@ -16,12 +16,12 @@ const LONGEST: usize = 65_536;
 const ROOM: usize = 64;
 /// Generated archives by certify's answer, at 0 the certified ones: how many are taken of 5 entries a node, at 32 bits and at the others, of 3
 /// and of 15, and of each other number. 1 is left out.
-const MANY: [u32; 10] = [60, 0, 35, 25, 20, 6, 25, 25, 25, 25];
+const MANY: [u32; 10] = [70, 0, 45, 30, 25, 8, 30, 30, 30, 30];
 const FEWER: [u32; 10] = [6, 0, 3, 2, 2, 1, 2, 2, 2, 2];
-const ENDS: [u32; 10] = [4, 0, 2, 2, 1, 1, 2, 2, 2, 2];
+const ENDS: [u32; 10] = [6, 0, 3, 3, 2, 1, 3, 3, 3, 3];
 /// How long they may be with 5 entries a node, longer with more. Those nested too deep, 5, are longer than the others.
 const LENGTHS: [usize; 10] = [
-    1_500, 0, 1_200, 1_200, 1_200, 2_400, 1_200, 1_200, 1_200, 1_200,
+    1_500, 0, 1_200, 1_200, 1_200, 3_600, 1_200, 1_200, 1_200, 1_200,
 ];
 
 /// An archive and what is asked of it.
