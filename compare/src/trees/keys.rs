@@ -69,7 +69,7 @@ pub fn bounds(keys: &[u64], random: &mut Random) -> (Bound<u64>, Bound<u64>) {
 }
 
 /// The keys of two such bounds.
-pub fn ends(keys: &[u64], random: &mut Random) -> (u64, u64) {
+fn ends(keys: &[u64], random: &mut Random) -> (u64, u64) {
     let (mut lower, mut upper) = (near(keys, random), near(keys, random));
     if lower > upper && !random.one_in(4) {
         (lower, upper) = (upper, lower);
