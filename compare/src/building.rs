@@ -235,11 +235,6 @@ impl Outputs {
             .and_then(|()| same_bytes("other bytes", &before[archive.len()..], past))
     }
 
-    /// How many calls there were.
-    pub fn calls(&self) -> u64 {
-        self.answers.all().0
-    }
-
     /// The first bytes of the output after a call.
     pub fn written(&self, length: usize) -> &[u8] {
         &self.output[..length]

@@ -95,6 +95,8 @@ struct Run {
     /// The lists behind a header at which rkyv panics, and those of them whose offsets fit.
     panics: u64,
     panics_alone: u64,
+    /// The calls that are refused by another number than 24 and 16.
+    refusals: u64,
     /// The archives that were read.
     read: u64,
     left_out: LeftOut,
@@ -111,6 +113,7 @@ impl Run {
             outputs,
             panics: 0,
             panics_alone: 0,
+            refusals: 0,
             read: 0,
             left_out: LeftOut::default(),
         }
@@ -189,8 +192,8 @@ impl Run {
         })
     }
 
-    /// A call that must be refused with this number and leave the output as it was; now and then the same with a number of entries a node that
-    /// 24 refuses, which comes before all others.
+    /// A call that must be refused with this number and leave the output as it was; every eighth also with each number of entries a node that 24
+    /// refuses, which comes before all others.
     fn refusal(&mut self, number: u8, given: Given<'_>) {
         let mut difference = self.call(given, Err(number));
         if let 11 | 13 = number {
@@ -199,7 +202,8 @@ impl Run {
             difference = difference.and_then(|()| same("length", right, ("ours", length)));
         }
         self.outputs.note(given, difference);
-        if self.outputs.calls() % 8 == 0 {
+        self.refusals += 1;
+        if self.refusals % 8 == 0 {
             self.refused_by_24(given);
         }
     }
