@@ -18,7 +18,7 @@ ghost use Rattle.quick.specs.Quick.{Passes, Below, Root};
 ghost use Rattle.numbers.specs.Numbers.{widthFor, numbered, Numbers};
 
 // A number of w bytes.
-fn number_at(s: &[u8], p: usize, w: usize) -> usize
+pub fn number_at(s: &[u8], p: usize, w: usize) -> usize
     requires { ⌜ (bytes (widthFor w) ≡ w) × (p + w ≤ length (now s)) ⌝ }
     ensures { λ r. ⌜ (r ≡ leAt (bytes (widthFor w)) (now (s .entry)) p) × (r < 2 ^ suc (signBits (widthFor w))) ⌝ }
 {
@@ -32,7 +32,7 @@ fn number_at(s: &[u8], p: usize, w: usize) -> usize
 }
 
 // The size of an inner node.
-fn inner_of(w: usize, e: usize) -> usize
+pub fn inner_of(w: usize, e: usize) -> usize
     requires { ⌜ (bytes (widthFor w) ≡ w) × (e ≤ 15) ⌝ }
     ensures { λ r. ⌜ (r ≡ innerSize (numbered w e)) × (r ≤ 376) ⌝ }
 {

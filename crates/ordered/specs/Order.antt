@@ -35,6 +35,11 @@ pub record Rise (s : List ℕ) (p n some k : ℕ) : Type 0 where
   pub first : some ≡ 1 → k < keyIn s p 0
   pub each : (j : ℕ) → j + 1 < n → keyIn s p j < keyIn s p (j + 1)
 
+-- The last key after slot i of the node at p, which has e slots: the slot's, above k, or k where there is no such slot.
+abbrev pub NextKey : List ℕ → ℕ → ℕ → ℕ → ℕ → Next → Type 0
+NextKey s e p i k (next.Key key) = (i < e → (key ≡ keyIn s p i) × (k < key)) × (e ≤ i → key ≡ k)
+NextKey s e p i k next.No = p ≡ p
+
 module _ (L : Layout) (s : List ℕ) where
   abbrev pub LeafKeys : ℕ → ℕ → ℕ → Passed → Type 0
   LeafKeys p some k (passed.Child n t last) =
@@ -58,8 +63,3 @@ module _ (L : Layout) (s : List ℕ) where
     pub keys : Leads some k (listChildren L s (listAt L s d) p (L .entries) 0) last
     pub solid : anyChildren L s (hollowAt L s d) p (L .entries) 0 ≡ false
     pub first : absent L s (child L p 0) ≡ false
-
-  -- The last key after slot i of the node at p: the slot's, above k, or k where there is no such slot.
-  abbrev pub NextKey : ℕ → ℕ → ℕ → Next → Type 0
-  NextKey p i k (next.Key key) = (i < L .entries → (key ≡ keyIn s p i) × (k < key)) × (L .entries ≤ i → key ≡ k)
-  NextKey p i k next.No = p ≡ p

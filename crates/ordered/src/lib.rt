@@ -9,7 +9,7 @@ ghost use mathlib.Core.Path.{_≡_};
 ghost use mathlib.Core.Bool.{true, false};
 ghost use Prim.Native.Nat.{_+_, _*_, _≤_, _<_};
 ghost use lib.ListN.{length};
-ghost use Rattle.format.specs.Layout.{layoutOf, layout32, standard, pointer, headSize, leafSize, innerSize};
+ghost use Rattle.format.specs.Layout.{layout32, standard, pointer, headSize, leafSize, innerSize};
 ghost use Rattle.format.specs.Refusal.{gives};
 ghost use Rattle.format.specs.Check.{counted};
 ghost use Rattle.format.specs.Certify.{certify};
@@ -19,19 +19,19 @@ ghost use Rattle.ordered.specs.Order.{Rise, LeafKeys, ChildKeys, KeysBel
 const WRAP: usize = 0x1_0000_0000;
 
 // A child's entries, where the range starts after it, and the last key up to its end.
-enum Passed {
+pub enum Passed {
     Child(usize, usize, u64),
     No,
 }
 
 // The entries of a node and of all below it, 0 where nothing is known, and the last key.
-struct Keys {
-    entries: usize,
-    last: u64,
+pub struct Keys {
+    pub entries: usize,
+    pub last: u64,
 }
 
 // The last key after a slot.
-enum Next {
+pub enum Next {
     Key(u64),
     No,
 }
@@ -126,7 +126,7 @@ fn child_keys(
 // The key of slot i of an inner node, where it is above the one before it; after the greater child no slot follows.
 fn next_key(archive: &[u8], at: usize, i: usize, last: u64) -> Next
     requires { ⌜ at + headSize layout32 ≤ length (now archive) ⌝ }
-    ensures { λ r. ⌜ NextKey layout32 (now (archive .entry)) at i last r ⌝ }
+    ensures { λ r. ⌜ NextKey (now (archive .entry)) (layout32 .entries) at i last r ⌝ }
 {
     if i >= Common::ENTRIES {
         return Next::Key(last);
@@ -182,7 +182,7 @@ fn node_keys(
 }
 
 // The recorded count of an archive at the common layout that is certified, or 0.
-fn root_keys(archive: &[u8]) -> usize
+pub fn root_keys(archive: &[u8]) -> usize
     ensures { λ r. ⌜ (0 < r → counted (certify layout32 standard (now (archive .entry))) ≡ gives r) ⌝ }
 {
     let length = archive.len();
@@ -216,14 +216,4 @@ fn root_keys(archive: &[u8]) -> usize
         return 0;
     }
     count
-}
-
-// The same at any layout: it knows the common one alone.
-pub fn quick_certify(archive: &[u8], layout: Layout) -> usize
-    ensures { λ r. ⌜ (0 < r → counted (certify (layoutOf layout) standard (now (archive .entry))) ≡ gives r) ⌝ }
-{
-    if layout.is_common() {
-        return root_keys(archive);
-    }
-    0
 }

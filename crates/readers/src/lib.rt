@@ -8,7 +8,7 @@ use format::Layout;
 use format::Position;
 use format::Refusal;
 use offsets::rel_ptr::ones;
-use ordered::quick_certify;
+use orders::quick_certify;
 ghost use mathlib.Core.Path.{_≡_};
 ghost use Prim.Native.Nat.{_-_, _≤_};
 ghost use lib.ListN.{length};
