@@ -6,7 +6,7 @@ use Rattle.format.specs.Layout.{Layout, layoutOf, standard}
 use Rattle.format.specs.Refusal.{gives}
 use Rattle.format.specs.Check.{counted}
 use Rattle.format.specs.Certify.{certify}
-use Rattle.format.specs.Laws.Build.Taken.{range-in}
+use Rattle.format.specs.Laws.Numbers.Widths.{range-in}
 use Rattle.orders.proofs.quick_certify.Statement.{statement}
 use Rattle.orders.proofs.quick_certify.Tie as tie
 
