@@ -237,15 +237,16 @@ module _ (L : Layout) (s : List ℕ) where
         go (suc m) e h o = rw (e, w .is, eq-eqb n (suc m) o)
 
     certified : entriesInRange L ≡ true → length s ≤ M .longest → recordSize L ≤ length s → root L s % recordAlign L ≡ 0 → 1 < M .depth
-        → Root L s (nested M) (root L s) n → (last : ℕ) → Leads 0 0 (listChild L s (listAt L s (nested M)) (root L s)) last → anyChild L s (hollowAt L s (nested M)) (root L s) ≡ false
-        → counted (certify L M s) ≡ gives n
+        → Root L s (nested M) (root L s) n → (last : ℕ) → Leads 0 0 (listChild L s (listAt L s (nested M)) (root L s)) last
+        → anyChild L s (hollowAt L s (nested M)) (root L s) ≡ false → counted (certify L M s) ≡ gives n
     unfolding certify checkArchive
     certified range small room even deep w last keys solid =
         rw (range, le-leb _ _ small, le-leb _ _ room, eq-eqb _ _ even, lt-ltb _ _ deep, root-accepts w, list-solid solid, list-ascends last keys)
 
     -- The same by the keys below the root, an inner node that ends at t.
     pub certified-below : {t last : ℕ} → entriesInRange L ≡ true → length s ≤ M .longest → recordSize L ≤ length s → root L s % recordAlign L ≡ 0
-        → 2 < M .depth → p % 8 ≡ 0 → getD s p 0 ≡ 1 → t ≡ p + innerSize L → t ≤ root L s → KeysBelow L s (nested M - 1) 0 p 0 0 n last → counted (certify L M s) ≡ gives n
+        → 2 < M .depth → p % 8 ≡ 0 → getD s p 0 ≡ 1 → t ≡ p + innerSize L → t ≤ root L s → KeysBelow L s (nested M - 1) 0 p 0 0 n last
+        → counted (certify L M s) ≡ gives n
     unfolding nested
     certified-below range small room even deep aligned z e high w =
         let pass = inner-keys 0 (root L s) (root L s) 0 0 to (omega arith) aligned (nested M) (omega arith) z e high w in

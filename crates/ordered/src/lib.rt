@@ -9,7 +9,7 @@ ghost use mathlib.Core.Path.{_≡_};
 ghost use mathlib.Core.Bool.{true, false};
 ghost use Prim.Native.Nat.{_+_, _*_, _≤_, _<_};
 ghost use lib.ListN.{length};
-ghost use Rattle.format.specs.Layout.{layout32, standard, pointer, headSize, leafSize, innerSize};
+ghost use Rattle.format.specs.Layout.{layout32, standard, pointer, keysFrom, headSize, leafSize, innerSize};
 ghost use Rattle.format.specs.Refusal.{gives};
 ghost use Rattle.format.specs.Check.{counted};
 ghost use Rattle.format.specs.Certify.{certify};
@@ -123,12 +123,12 @@ fn child_keys(
     Passed::Child(below.entries, p + Common::INNER, below.last)
 }
 
-// The key of slot i of an inner node, where it is above the one before it; after the greater child no slot follows.
-fn next_key(archive: &[u8], at: usize, i: usize, last: u64) -> Next
-    requires { ⌜ at + headSize layout32 ≤ length (now archive) ⌝ }
-    ensures { λ r. ⌜ NextKey (now (archive .entry)) (layout32 .entries) at i last r ⌝ }
+// The key of slot i of an inner node of e slots, where it is above the one before it; after the greater child no slot follows.
+pub fn next_key(archive: &[u8], e: usize, at: usize, i: usize, last: u64) -> Next
+    requires { ⌜ at + keysFrom + 8 * e ≤ length (now archive) ⌝ }
+    ensures { λ r. ⌜ NextKey (now (archive .entry)) e at i last r ⌝ }
 {
-    if i >= Common::ENTRIES {
+    if i >= e {
         return Next::Key(last);
     }
     let key = u64_at(archive, at + Layout::KEYS + 8 * i);
@@ -170,7 +170,7 @@ fn node_keys(
         let Passed::Child(n, next, key) = child else {
             return none;
         };
-        let Next::Key(greatest) = next_key(archive, at, i, key) else {
+        let Next::Key(greatest) = next_key(archive, Common::ENTRIES, at, i, key) else {
             return none;
         };
         entries += n;

@@ -10,17 +10,18 @@ use offsets::rel_ptr::ones;
 use ordered::Keys;
 use ordered::Next;
 use ordered::Passed;
+use ordered::next_key;
 use ordered::root_keys;
 ghost use mathlib.Core.Path.{_≡_};
 ghost use mathlib.Core.Bool.{true};
 ghost use Prim.Native.Nat.{_+_, _*_, _≤_, _<_};
 ghost use lib.ListN.{length};
-ghost use Rattle.format.specs.Layout.{layoutOf, standard, keysFrom, bytes, headSize, leafSize, innerSize};
+ghost use Rattle.format.specs.Layout.{layoutOf, standard, keysFrom, bytes, leafSize, innerSize};
 ghost use Rattle.format.specs.Refusal.{gives};
 ghost use Rattle.format.specs.Check.{counted};
 ghost use Rattle.format.specs.Certify.{certify};
 ghost use Rattle.numbers.specs.Numbers.{widthFor, numbered, Numbers};
-ghost use Rattle.ordered.specs.Order.{Rise, LeafKeys, ChildKeys, KeysBelow, NextKey};
+ghost use Rattle.ordered.specs.Order.{Rise, LeafKeys, ChildKeys, KeysBelow};
 
 // Whether the first n keys of a node ascend, from above `last` on where `some` is 1.
 fn rising(archive: &[u8], p: usize, n: usize, some: usize, last: u64) -> bool
@@ -114,21 +115,6 @@ fn child_by(
     Passed::Child(below.entries, p + size, below.last)
 }
 
-// As `next_key`.
-fn next_by(archive: &[u8], e: usize, at: usize, i: usize, last: u64) -> Next
-    requires { ⌜ (at + keysFrom + 8 * e ≤ length (now archive)) ⌝ }
-    ensures { λ r. ⌜ NextKey (now (archive .entry)) e at i last r ⌝ }
-{
-    if i >= e {
-        return Next::Key(last);
-    }
-    let key = u64_at(archive, at + Layout::KEYS + 8 * i);
-    if key <= last {
-        return Next::No;
-    }
-    Next::Key(key)
-}
-
 // As `node_keys`.
 fn node_by(
     archive: &[u8],
@@ -175,7 +161,7 @@ fn node_by(
         let Passed::Child(n, next, key) = child else {
             return none;
         };
-        let Next::Key(greatest) = next_by(archive, e, at, i, key) else {
+        let Next::Key(greatest) = next_key(archive, e, at, i, key) else {
             return none;
         };
         entries += n;

@@ -20,7 +20,7 @@ use Rattle.orders.proofs.+child_by+node_by.Lts-node_by as node-lts
 use Rattle.numbers.proofs.number_at.Reads as number-at
 use Rattle.numbers.proofs.inner_of.Reads as inner-of
 use Rattle.orders.proofs.leaf_by.Reads as leaf-by
-use Rattle.orders.proofs.next_by.Reads as next-by
+use Rattle.ordered.proofs.next_key.Reads as next-key
 use Rattle.orders.proofs.+child_by+node_by.{statement}
 use Rattle.orders.proofs.+child_by+node_by.Tie.{close}
 
@@ -131,7 +131,7 @@ abbrev μ-loop : node-lts.MeasureT-loop
 μ-loop archive w e ones start at depth some before none first from₀ entries₀ known₀ last₀ i₀ i-end from entries known last i = e + 1 - i
 
 abbrev node-calls : ℕ → node-lts.Claims
-node-calls t = (number-at.Asked, number-at.Learnt, child-below t, child.Post, next-by.Asked, next-by.Learnt)
+node-calls t = (number-at.Asked, number-at.Learnt, child-below t, child.Post, next-key.Asked, next-key.Learnt)
 
 -- A place or a need of `node_by`.
 abbrev In-node : ℕ
@@ -178,11 +178,11 @@ module _ (t : ℕ) (c : In-node t node-lts.After-known-told2) where
       (head .loop .entries + v .0) 1 (after .greatest .given .0 .0)
   next =
       let asked : In-node t node-lts.After-child-by = search in
-      let slot : In-node t node-lts.After-next-by = search in
+      let slot : In-node t node-lts.After-next-key = search in
       let a = start .args in
       let field = child-is (a .w) (a .e) (a .at) (head .loop .i) (start .pre .1 .0 .wide) in
       more-keys _ _ _ _ _ _ _ (head .loop .inv .4) (rw field at (rw (answer .child .given .1) at (asked .child-by .ensures)))
-      (rw (after .greatest .given .1) at (slot .next-by .ensures)) (omega arith)
+      (rw (after .greatest .given .1) at (slot .next-key .ensures)) (omega arith)
 
 node-loop-holds : (t : ℕ) → In-node t node-lts.Need-loop-holds
 node-loop-holds t c = (omega arith, omega arith, omega arith, omega arith, no-keys _ _ _ _ _ _ _ (omega arith))
