@@ -154,16 +154,16 @@ pub fn replay_case(buffer: &mut [u8]) {
     }
 }
 
-fn check_32(bytes: &[u8]) {
-    print_checked(fieldmap::check(Width::Four, bytes));
+fn check_common(bytes: &[u8]) {
+    print_checked(fieldmap::check(Layout::COMMON, bytes));
 }
 
 fn check_longest(bytes: &[u8]) {
     print(b"too long ");
-    check_32(bytes);
+    check_common(bytes);
     if 1048576 <= bytes.len() {
         print(b"longest ");
-        check_32(&bytes[..1048576]);
+        check_common(&bytes[..1048576]);
     }
 }
 

@@ -6,8 +6,8 @@ use borrow.Author.Needs.{needs}
 use Rattle.cases.proofs.archives.check_longest.Statement.{statement}
 use Rattle.cases.proofs.archives.check_longest.Tie as tie
 
-slice-aggregate-check-32 : tie.Need-slice-aggregate-check-32
-slice-aggregate-check-32 c =
+slice-aggregate-check-common : tie.Need-slice-aggregate-check-common
+slice-aggregate-check-common c =
     let start : tie.Start = search in
     sym (length-take-le 1048576 (start .args .bytes .now) (omega arith))
 
@@ -20,7 +20,7 @@ check-longest-spec =
     (search needs)
     (search needs)
     (search needs)
-    slice-aggregate-check-32
+    slice-aggregate-check-common
     (search needs)
     (search needs)
     (search needs))
