@@ -1,13 +1,12 @@
 -- Document 02, N2, "Bounds sorted out before the scan", as theorems. The words in quotes are its own. Assumes nothing.
-use Prim.Native.Nat.{ℕ, _-_, _^_, _<_}
+use Prim.Native.Nat.{ℕ, _^_, _<_}
 use mathlib.Core.Path.{_≡_}
 use mathlib.Core.Bool.{true, _&&_}
 use mathlib.Core.List.{List}
 use Rattle.format.specs.declared.Bound.{Bound}
 use Rattle.format.specs.declared.Bound.the-variants.{Included, Excluded, Unbounded}
 use Rattle.format.specs.declared.Ends.the-variants.{Nothing}
-use Rattle.format.specs.Layout.{two, Layout, standard}
-use Rattle.format.specs.Refusal.{gives}
+use Rattle.format.specs.Layout.{Layout, standard}
 use Rattle.format.specs.Bytes.{AllBytes}
 use Rattle.format.specs.Entries.{list}
 use Rattle.format.specs.Range.{keyMeetsLower, keyMeetsUpper, select, crosses, range, Fits, endsOf, holds, held}

@@ -1,5 +1,5 @@
 -- Document 02, N5, "Columns that cross the middle", as theorems. The words in quotes are its own. Assumes nothing.
-use Prim.Native.Nat.{ℕ, _+_, _-_, _/_, _%_, _^_, _≤_, _<_}
+use Prim.Native.Nat.{ℕ, _/_, _%_, _^_, _<_}
 use mathlib.Core.Path.{_≡_, refl, subst}
 use mathlib.Core.Bool.{true, false, _&&_, _||_}
 use mathlib.Core.List.{List, []}
@@ -10,10 +10,10 @@ use lib.Signed.{leZ, nonNeg, _≤ℤ_, _<ℤ_}
 use Rattle.format.specs.declared.Entry.{Entry}
 use Rattle.format.specs.declared.Packing.{Packing}
 use Rattle.format.specs.declared.Packing.the-variants.{TwosComplement, Plus128}
-use Rattle.format.specs.Layout.{two, bytes, Layout, standard}
+use Rattle.format.specs.Layout.{Layout, standard}
 use Rattle.format.specs.Refusal.{gives}
 use Rattle.format.specs.Key.{Degrees, packKey, fieldsOf, bit}
-use Rattle.format.specs.Check.{refused, counted}
+use Rattle.format.specs.Check.{counted}
 use Rattle.format.specs.Certify.{certify}
 use Rattle.format.specs.Entries.{list}
 use Rattle.format.specs.Lookup.{In}

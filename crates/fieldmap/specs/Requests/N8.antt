@@ -6,17 +6,16 @@ use mathlib.Core.List.{List}
 use mathlib.Core.Logic.{_↔_, _⊎_, inl, inr}
 use native.Mathlib.Omega.{arith}
 use lib.Dec.{leb}
-use lib.IntN.{ℤ, pos, _+ℤ_}
+use lib.IntN.{pos, _+ℤ_}
 use lib.ListN.{length}
 use Rattle.format.specs.declared.Width.{Width as NamedWidth}
 use Rattle.format.specs.declared.Width.the-variants.{Two, Four, Eight}
-use Rattle.format.specs.Layout.{Width, two, eight, bytes, signBits, Layout, atWidth, entriesInRange, pointer, leafSize, innerSize, recordSize, recordAlign, standard}
+use Rattle.format.specs.Layout.{Width, two, eight, signBits, Layout, atWidth, entriesInRange, pointer, leafSize, innerSize, recordSize, recordAlign, standard}
 use Rattle.format.specs.Refusal.{gives, refuses, provided, RefusesBy}
 use Rattle.format.specs.Bytes.{leAt}
 use Rattle.format.specs.Signed.{ofTwos}
 use Rattle.format.specs.RelPtr.{position, target}
-use Rattle.format.specs.Check.{refused, counted, root, recorded, checkArchive}
-use Rattle.format.specs.Column.{takes}
+use Rattle.format.specs.Check.{counted, root, recorded, checkArchive}
 use Rattle.format.specs.Tree.{Branch}
 use Rattle.format.specs.Build.{height, lastLevel, treeOf, start, behind, pairs, build, buildLength}
 use Rattle.format.specs.Built.{Taken}

@@ -9,12 +9,12 @@ use lib.IntN.{ℤ}
 use lib.ListN.{length}
 use Rattle.format.specs.declared.Bound.{Bound}
 use Rattle.format.specs.declared.Packing.{Packing}
-use Rattle.format.specs.Layout.{four, bytes, Layout, entriesInRange, leafSize, innerSize, standard, nested}
+use Rattle.format.specs.Layout.{four, Layout, entriesInRange, leafSize, innerSize, standard, nested}
 use Rattle.format.specs.Refusal.{Answer, gives, refuses, From}
 use Rattle.format.specs.Check.{Checked, refused, counted, checkBody, checkArchive}
 use Rattle.format.specs.Certify.{certify}
 use Rattle.format.specs.Calls.{columnCall, columnKeys, columnValues}
-use Rattle.format.specs.Build.{height, lastLevel, start, behind, pairs, build, buildLength, outBy, outAfter}
+use Rattle.format.specs.Build.{height, lastLevel, pairs, build, buildLength, outBy, outAfter}
 use Rattle.format.specs.Laws.Check.Refusals.{check-by, certify-by, leaf-6, only-24}
 use Rattle.fieldmap.specs.Refusals.{build-by, length-by, column-refused-by}
 use Rattle.format.specs.Calls.{lookupCall, bytesCall, placeCall, walkCall, walkKeys, walkValues, rangeCall, rangeKeys, rangeValues}
