@@ -1,9 +1,12 @@
--- A layout as two numbers, and the bits of -1 beside them. Assumes nothing: these are definitions.
-use Prim.Native.Nat.{ℕ, suc, _-_, _^_, _≤_}
+-- A layout as two numbers, and the bits of -1 beside them; the root as the quick ways take it. Assumes nothing: these are definitions.
+use Prim.Native.Nat.{ℕ, suc, _+_, _-_, _^_, _%_, _≤_}
 use mathlib.Core.Path.{_≡_}
 use mathlib.Core.Bool.{true, false}
+use mathlib.Core.List.{List}
+use lib.ListN.{getD}
 use lib.Dec.{eqb}
-use Rattle.format.specs.Layout.{Layout, Width, two, four, eight, bytes, signBits}
+use Rattle.format.specs.Layout.{Layout, Width, two, four, eight, bytes, signBits, innerSize, nodeAlign}
+use Rattle.format.specs.Readable.{LeadsTo}
 
 -- The layout of a width and of the entries a node as numbers.
 unfoldable pub widthFor : ℕ → Width
@@ -17,3 +20,10 @@ pub record Numbers (w e ones : ℕ) : Type 0 where
   pub wide : bytes (widthFor w) ≡ w
   pub few : e ≤ 15
   pub full : ones ≡ 2 ^ suc (signBits (widthFor w)) - 1
+
+-- The field f leads back to an inner node at p, which is in its place.
+pub record InnerBack (L : Layout) (s : List ℕ) (f p : ℕ) : Type 0 where
+  pub to : LeadsTo L s f p
+  pub room : p + innerSize L ≤ f
+  pub aligned : p % nodeAlign ≡ 0
+  pub inner : getD s p 0 ≡ 1

@@ -15,7 +15,7 @@ ghost use lib.ListN.{length};
 ghost use Rattle.format.specs.Layout.{layoutOf, bytes, signBits, pointer, innerSize};
 ghost use Rattle.format.specs.Bytes.{leAt};
 ghost use Rattle.quick.specs.Quick.{Passes, Below, Root};
-ghost use Rattle.numbers.specs.Numbers.{widthFor, numbered, Numbers};
+ghost use Rattle.numbers.specs.Numbers.{widthFor, numbered, Numbers, InnerBack};
 
 // A number of w bytes.
 pub fn number_at(s: &[u8], p: usize, w: usize) -> usize
@@ -169,16 +169,12 @@ fn node_below(
     total
 }
 
-// The entries of the inner node that the record's field leads to and of all below it, or 0. The common layout goes on with constants.
-pub fn quick_root(archive: &[u8], layout: Layout, at: usize, depth: usize) -> usize
-    requires { ⌜ (layout .entries ≤ 15) × (at + pointer (layoutOf layout) ≤ length (now archive)) × (0 < depth) ⌝ }
-    ensures { λ r. ⌜ (0 < r → Root (layoutOf layout) (now (archive .entry)) depth at r) ⌝ }
+// The inner node to which the record's field leads back, where it is in its place; else 0.
+pub fn inner_root(archive: &[u8], layout: Layout, at: usize) -> usize
+    requires { ⌜ (layout .entries ≤ 15) × (at + pointer (layoutOf layout) ≤ length (now archive)) ⌝ }
+    ensures { λ r. ⌜ (0 < r → InnerBack (layoutOf layout) (now (archive .entry)) at r) ⌝ }
 {
-    if archive.len() > Limits::LONGEST {
-        return 0;
-    }
     let width = layout.width;
-    let w = layout.pointer();
     let all = ones(width) as usize;
     let offset = uint_at(archive, at, width) as usize;
     let back = all - offset;
@@ -198,8 +194,26 @@ pub fn quick_root(archive: &[u8], layout: Layout, at: usize, depth: usize) -> us
     if archive[p] != 1 {
         return 0;
     }
+    p
+}
+
+// The entries of the inner node to which the record's field leads and of all below it, or 0. The common layout goes on with constants.
+pub fn quick_root(archive: &[u8], layout: Layout, at: usize, depth: usize) -> usize
+    requires { ⌜ (layout .entries ≤ 15) × (at + pointer (layoutOf layout) ≤ length (now archive)) × (0 < depth) ⌝ }
+    ensures { λ r. ⌜ (0 < r → Root (layoutOf layout) (now (archive .entry)) depth at r) ⌝ }
+{
+    if archive.len() > Limits::LONGEST {
+        return 0;
+    }
+    let p = inner_root(archive, layout, at);
+    if p == 0 {
+        return 0;
+    }
     if layout.is_common() {
         return quick_node(archive, 0, p, depth - 1);
     }
+    let w = layout.pointer();
+    let width = layout.width;
+    let all = ones(width) as usize;
     node_below(archive, w, layout.entries, all, 0, p, depth - 1)
 }

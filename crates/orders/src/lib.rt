@@ -5,6 +5,7 @@ use fields::primitive::uint_at;
 use format::Layout;
 use format::Limits;
 use numbers::inner_of;
+use numbers::inner_root;
 use numbers::number_at;
 use offsets::rel_ptr::ones;
 use ordered::Keys;
@@ -190,26 +191,12 @@ fn root_by(archive: &[u8], layout: Layout) -> usize
     if at % w != 0 {
         return 0;
     }
+    let p = inner_root(archive, layout, at);
+    if p == 0 {
+        return 0;
+    }
     let width = layout.width;
     let all = ones(width) as usize;
-    let offset = uint_at(archive, at, width) as usize;
-    let back = all - offset;
-    if offset <= back {
-        return 0;
-    }
-    if at <= back {
-        return 0;
-    }
-    let p = at - 1 - back;
-    if at < p + layout.inner() {
-        return 0;
-    }
-    if p % Layout::NODE_ALIGN != 0 {
-        return 0;
-    }
-    if archive[p] != 1 {
-        return 0;
-    }
     let root = node_by(
         archive,
         w,

@@ -1,25 +1,24 @@
 -- `orders::root_by` meets its contract. Assumes nothing.
-use mathlib.Core.Path.{_≡_, sym, ap, subst, _∙_}
+use mathlib.Core.Path.{_≡_, refl, sym, ap, subst, _∙_}
 use mathlib.Core.Bool.{true}
 use mathlib.Core.List.{List}
-use Prim.Native.Nat.{ℕ, _+_, _-_, _%_, _≤_}
+use Prim.Native.Nat.{ℕ, _-_, _%_, _≤_}
 use native.Mathlib.Omega.{arith}
 use lib.ListN.{length}
 use borrow.Author.Needs.{needs}
 use Rattle.format.specs.Layout.{Layout, layoutOf, entriesInRange, widthOf, standard, nested, pointer, innerSize, recordSize, recordAlign}
 use Rattle.format.specs.Bytes.{leAt}
-use Rattle.format.specs.Readable.{LeadsTo}
 use Rattle.format.specs.Check.{root, recorded}
 use Rattle.format.specs.Laws.Numbers.Widths.{in-range}
-use Rattle.numbers.specs.Numbers.{numbered, Numbers}
-use Rattle.numbers.proofs.Numbered.{numbered-is, numbers-of, leads-by}
+use Rattle.numbers.specs.Numbers.{numbered, Numbers, InnerBack}
+use Rattle.numbers.proofs.Numbered.{numbered-is, numbers-of}
 use Rattle.ordered.specs.Order.{KeysBelow}
 use Rattle.ordered.proofs.Order.{certified-below}
 use Rattle.orders.proofs.root_by.Statement.{statement}
 use Rattle.orders.proofs.root_by.Tie as tie
 
 -- The record's field leads back to an inner node in its place.
-module _ (c : tie.Else8) where
+module _ (c : tie.Else4) where
   abbrev entry : tie.Start
   entry = search
 
@@ -28,15 +27,6 @@ module _ (c : tie.Else8) where
 
   abbrev wide : tie.After-pointer
   wide = search
-
-  abbrev all : tie.After-ones
-  all = search
-
-  abbrev read : tie.After-uint-at
-  read = search
-
-  abbrev node : tie.After-inner
-  node = search
 
   abbrev s : List ℕ
   s = entry .args .archive .now
@@ -48,7 +38,7 @@ module _ (c : tie.Else8) where
   f = length s - sized .record .result
 
   abbrev p : ℕ
-  p = f - 1 - (all .ones .result - read .uint-at .result)
+  p = c .before .inner-root .result
 
   -- The record's place, and whether it aligns.
   place : f ≡ root L s
@@ -70,42 +60,42 @@ module _ (c : tie.Else8) where
   room : recordSize L ≤ length s
   room = let long : tie.Else2 = search in omega (arith, long .if2 .left, sized .record .ensures .0)
 
-  to : LeadsTo L s (root L s) p
-  to =
-      subst (λ (g : ℕ). LeadsTo L s g p) place
-      (leads-by L s f _ _ (read .uint-at .ensures .0) (read .uint-at .ensures .1) (all .ones .ensures) (omega arith) (omega arith))
+  inner : InnerBack L s (root L s) p
+  inner = subst (λ (g : ℕ). InnerBack L s g p) place (c .before .inner-root .ensures (omega arith))
 
-  -- The layout as numbers.
+-- The layout as numbers.
+module _ (c : tie.After-ones) where
+  abbrev there : tie.Else4
+  there = search
+
   abbrev by-numbers : Layout
-  by-numbers = numbered (wide .pointer .result) (entry .args .layout .entries)
+  by-numbers = numbered (wide there .pointer .result) (entry there .args .layout .entries)
 
-  same : by-numbers ≡ L
-  same = ap (λ (w : ℕ). numbered w (entry .args .layout .entries)) (wide .pointer .ensures .0) ∙ numbered-is (entry .args .layout)
+  same : by-numbers ≡ L there
+  same = ap (λ (w : ℕ). numbered w (entry there .args .layout .entries)) (wide there .pointer .ensures .0) ∙ numbered-is (entry there .args .layout)
 
-  numbers : Numbers (wide .pointer .result) (entry .args .layout .entries) (all .ones .result)
-  numbers = numbers-of (widthOf (entry .args .layout .width)) _ _ _ (wide .pointer .ensures .0) (entry .pre .1) (all .ones .ensures)
+  numbers : Numbers (wide there .pointer .result) (entry there .args .layout .entries) (c .ones .result)
+  numbers =
+      numbers-of (widthOf (entry there .args .layout .width)) _ _ _ (wide there .pointer .ensures .0) (entry there .pre .1) (c .ones .ensures)
 
 node-by-requires : tie.Need-node-by-requires
 node-by-requires c κs =
-    let inner : tie.Else8 = search in
-    let room : tie.Else6 = search in
-    (numbers inner, omega arith, omega (arith, ap innerSize (same inner), node inner .inner .ensures .0, room .if6 .left))
+    let all : tie.After-ones = search in
+    (numbers all, omega arith, omega (arith, ap innerSize (same all), inner (there all) .room, place (there all)))
 
-returns-10 : tie.Need-returns-10
+returns-6 : tie.Need-returns-6
 unfolding standard nested recorded
-returns-10 c =
-    let inner : tie.Else8 = search in
+returns-6 c =
+    let all : tie.After-ones = search in
     let asked : tie.After-node-by = search in
-    let count : tie.After-uint-at2 = search in
-    let aligned : tie.Else7 = search in
-    let held : tie.Else6 = search in
+    let count : tie.After-uint-at = search in
     let last = asked .node-by .result .last in
-    λ h. certified-below (L inner) (s inner) standard
-    (sym (count .uint-at2 .ensures .0 ∙ ap (leAt (pointer (L inner)) (s inner)) (omega (arith, place inner, wide inner .pointer .ensures .0)))) h
-    (to inner) (range inner) (short inner) (room inner) (even inner) (omega arith) (aligned .if7 .left) (inner .if8 .left)
-    (ap (λ (m : ℕ). p inner + m) (node inner .inner .ensures .0)) (rw (← place inner) (held .if6 .left))
-    (subst (λ (M : Layout). KeysBelow M (s inner) 13 0 (p inner) 0 0 (count .uint-at2 .result) last) (same inner)
-    (subst (λ (m : ℕ). KeysBelow (by-numbers inner) (s inner) 13 0 (p inner) 0 0 m last) (c .if9 .left) (asked .node-by .ensures (omega arith))))
+    let here = there all in
+    λ h. certified-below (L here) (s here) standard
+    (sym (count .uint-at .ensures .0 ∙ ap (leAt (pointer (L here)) (s here)) (omega (arith, place here, wide here .pointer .ensures .0)))) h
+    (inner here .to) (range here) (short here) (room here) (even here) (omega arith) (inner here .aligned) (inner here .inner) refl (inner here .room)
+    (subst (λ (M : Layout). KeysBelow M (s here) 13 0 (p here) 0 0 (count .uint-at .result) last) (same all)
+    (subst (λ (m : ℕ). KeysBelow (by-numbers all) (s here) 13 0 (p here) 0 0 m last) (c .if5 .left) (asked .node-by .ensures (omega arith))))
 
 pub root-by-spec : {M : Type 1} → statement M
 unfolding standard
@@ -119,21 +109,11 @@ root-by-spec =
     (search needs)
     (λ c. λ h. absurd (omega arith))
     (search needs)
-    (search needs)
-    (search needs)
-    (λ c. λ h. absurd (omega arith))
     (λ c. λ h. absurd (omega arith))
     (search needs)
-    (search needs)
-    (search needs)
-    (search needs)
-    (λ c. λ h. absurd (omega arith))
-    (λ c. λ h. absurd (omega arith))
-    (search needs)
-    (λ c. λ h. absurd (omega arith))
     (search needs)
     node-by-requires
     (search needs)
     (search needs)
     (λ c. λ h. absurd (omega arith))
-    returns-10)
+    returns-6)
