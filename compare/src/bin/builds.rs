@@ -211,7 +211,8 @@ impl Run {
     /// The call with each number of entries a node that 24 refuses.
     fn refused_by_24(&mut self, given: Given<'_>) {
         for (index, entries) in (0..).zip(OUTSIDE) {
-            let width = ours::bits(self.layout.width, index * given.header as u64);
+            let any = (given.header as u64).wrapping_mul(index);
+            let width = ours::bits(self.layout.width, any);
             let named = Named { width, entries };
             let length = named.build_length(given.keys.len(), given.header);
             let difference = self
