@@ -54,19 +54,8 @@ pub fn compare(
     }
     #[cfg(feature = "ours")]
     {
-        let before = bytes.to_vec();
-        let asked = proved::Asked {
-            layout,
-            bytes,
-            checked: &checked,
-            certified: layout.certify(bytes).map(narrow),
-            list: &list,
-        };
-        asked.compare(&sought, random)?;
-        asked.compare_ranges(&ranges, random)?;
-        asked.compare_columns(&sought, random)?;
-        left_out.outside += asked.compare_outside(&sought, random)?;
-        same("archive", ("before", &before[..]), ("after", bytes))?;
+        let asked = proved::Asked::new(layout, bytes, &checked, &list);
+        left_out.outside += asked.compare_all(&sought, &ranges, random)?;
     }
     Ok(())
 }

@@ -1,6 +1,6 @@
 //! The proved code's answers against rkyv's, and against the model's where rkyv has none.
 
-use crate::model::{Layout, OUTSIDE};
+use crate::model::{narrow, Layout, OUTSIDE};
 use crate::oracle::Checked;
 use crate::ours::named::Named;
 use crate::ours::{self, At};
@@ -12,20 +12,51 @@ use super::{count, matching, same, Bounds};
 
 /// What is asked about an archive, and what is known of it: rkyv's check, the model's certify, and the list, which is empty where rkyv refuses.
 pub struct Asked<'a> {
-    pub layout: Layout,
-    pub bytes: &'a [u8],
-    pub checked: &'a Checked<'a>,
-    pub certified: Result<u32, u8>,
-    pub list: &'a [(u64, u64)],
+    layout: Layout,
+    bytes: &'a [u8],
+    checked: &'a Checked<'a>,
+    certified: Result<u32, u8>,
+    list: &'a [(u64, u64)],
 }
 
-impl Asked<'_> {
+impl<'a> Asked<'a> {
+    pub fn new(
+        layout: Layout,
+        bytes: &'a [u8],
+        checked: &'a Checked<'a>,
+        list: &'a [(u64, u64)],
+    ) -> Self {
+        Self {
+            layout,
+            bytes,
+            checked,
+            certified: layout.certify(bytes).map(narrow),
+            list,
+        }
+    }
+
+    /// Every call, and that the archive stays. Gives how many calls 24 refused.
+    pub fn compare_all(
+        &self,
+        sought: &[u64],
+        ranges: &[Bounds],
+        random: &mut Random,
+    ) -> Result<u64, String> {
+        let before = self.bytes.to_vec();
+        self.compare(sought, random)?;
+        self.compare_ranges(ranges, random)?;
+        self.compare_columns(sought, random)?;
+        let outside = self.compare_outside(sought, random)?;
+        same("archive", ("before", &before[..]), ("after", self.bytes))?;
+        Ok(outside)
+    }
+
     fn ours(&self) -> At {
         ours::at(self.layout)
     }
 
     /// Check, certify, walk and lookups.
-    pub fn compare(&self, sought: &[u64], random: &mut Random) -> Result<(), String> {
+    fn compare(&self, sought: &[u64], random: &mut Random) -> Result<(), String> {
         let (ours, bytes, certified) = (self.ours(), self.bytes, self.certified);
         let count = count(self.checked);
         same("check", ("rkyv", count), ("ours", ours.check(bytes)))?;
@@ -80,7 +111,7 @@ impl Asked<'_> {
     }
 
     /// Ranges: what certify refuses is refused with the same number, and nothing is written.
-    pub fn compare_ranges(&self, ranges: &[Bounds], random: &mut Random) -> Result<(), String> {
+    fn compare_ranges(&self, ranges: &[Bounds], random: &mut Random) -> Result<(), String> {
         for &(lower, upper) in ranges {
             let (source, entries) = match (self.checked, self.certified) {
                 (Ok(accepted), Ok(_)) => matching(&**accepted, lower, upper),
@@ -103,7 +134,7 @@ impl Asked<'_> {
 
     /// Column queries by both packings: as ranges between the keys of their ends, and by the fields of its keys; 18 comes after what certify
     /// refuses.
-    pub fn compare_columns(&self, sought: &[u64], random: &mut Random) -> Result<(), String> {
+    fn compare_columns(&self, sought: &[u64], random: &mut Random) -> Result<(), String> {
         for &key in sought {
             for packing in model::PACKINGS {
                 let column = columns::about(key, packing, random);
@@ -133,7 +164,7 @@ impl Asked<'_> {
     }
 
     /// Every call with a number of entries a node that 24 refuses, before all else, and nothing is written. Gives how many calls there were.
-    pub fn compare_outside(&self, sought: &[u64], random: &mut Random) -> Result<u64, String> {
+    fn compare_outside(&self, sought: &[u64], random: &mut Random) -> Result<u64, String> {
         let named = Named {
             width: ours::bits(self.layout.width, random.number()),
             entries: random.pick(&OUTSIDE),
