@@ -1,7 +1,8 @@
--- The layout of a width and of the entries a node as numbers, and where an offset leads back to in these numbers. Assumes nothing.
+-- The layout of a width and of the entries a node as numbers, where an offset leads back to in these numbers, and absent children. Assumes nothing.
 use mathlib.Core.Path.{_≡_, refl, sym, ap, _∙_}
 use mathlib.Core.List.{List}
-use Prim.Native.Nat.{ℕ, suc, _+_, _-_, _*_, _^_, _<_, _≤_}
+use Prim.Native.Nat.{ℕ, zero, suc, _+_, _-_, _*_, _^_, _<_, _≤_}
+use native.Mathlib.Decide.{decLt}
 use native.Mathlib.Omega.{arith}
 use borrow.Author.Tests.{ne-eqb}
 use Rattle.format.specs.declared.Layout.{Layout as NamedLayout}
@@ -12,7 +13,9 @@ use Rattle.format.specs.Node.{child}
 use Rattle.format.specs.Readable.{LeadsTo}
 use Rattle.format.specs.Laws.Numbers.Widths.{bytes-some, bytes-few, area, reach, field-is}
 use Rattle.offsets.proofs.Offsets.{leads-behind}
-use Rattle.numbers.specs.Numbers.{widthFor, numbered, Numbers}
+use Rattle.quick.specs.Quick.{Below}
+use Rattle.quick.proofs.Passing.{SoFar, absent-passed, all-passed}
+use Rattle.numbers.specs.Numbers.{widthFor, numbered, Numbers, AbsentFrom}
 
 module _ (w : ℕ) where
   pub for-two : w ≡ 2 → widthFor w ≡ two
@@ -67,3 +70,15 @@ child-is w e p i wide = field-is (numbered w e) p i _ w refl (sym wide)
 
 pub field-near : (w e p i end : ℕ) → bytes (widthFor w) ≡ w → p + innerSize (numbered w e) ≤ end → i ≤ e → p + (8 + 16 * e) + w * i + w ≤ end
 field-near w e p i end wide h l = omega (arith, child-is w e p i wide, wide, reach (numbered w e) p end i h l)
+
+module _ (L : Layout) (s : List ℕ) (p : ℕ) where
+  pub absent-more : (i : ℕ) → leAt (pointer L) s (child L p i) ≡ 1 → AbsentFrom L s p (i + 1) → AbsentFrom L s p i
+  absent-more i e h j l m = elim (decLt i j) [ yes g ↦ h j (omega arith) m | no g ↦ (let same : j ≡ i = omega arith in rw same e) ]
+
+  -- Where the k children that are left are absent, all are passed.
+  pub absent-rest : (d start k : ℕ) {i from total : ℕ} → k + i ≡ L .entries + 1 → SoFar L s d p start i from total → AbsentFrom L s p i
+      → Below L s d start p total
+  absent-rest d start zero e w h = all-passed L s d p start w (omega arith)
+  absent-rest d start (suc k) {i = i} e w h =
+      absent-rest d start k {i = i + 1} (omega arith) (absent-passed L s d p start w (h i (omega arith) (omega arith)) (omega arith))
+      (λ j l. h j (omega arith))

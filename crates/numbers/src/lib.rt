@@ -10,12 +10,13 @@ use offsets::rel_ptr::ones;
 use quick::Passed;
 use quick::quick_node;
 ghost use mathlib.Core.Path.{_≡_};
+ghost use mathlib.Core.Bool.{true};
 ghost use Prim.Native.Nat.{ℕ, suc, _+_, _≤_, _<_, _^_};
 ghost use lib.ListN.{length};
 ghost use Rattle.format.specs.Layout.{layoutOf, bytes, signBits, pointer, innerSize};
 ghost use Rattle.format.specs.Bytes.{leAt};
 ghost use Rattle.quick.specs.Quick.{Passes, Below, Root};
-ghost use Rattle.numbers.specs.Numbers.{widthFor, numbered, Numbers, InnerBack};
+ghost use Rattle.numbers.specs.Numbers.{widthFor, numbered, Numbers, AbsentFrom, InnerBack};
 
 // A number of w bytes.
 pub fn number_at(s: &[u8], p: usize, w: usize) -> usize
@@ -39,8 +40,32 @@ pub fn inner_of(w: usize, e: usize) -> usize
     (8 + 16 * e + w * (e + 1) + 7) / 8 * 8
 }
 
-// The entries of an inner node in its place and of its children, where these are absent or leaves one right behind the other from the start of the range
-// on, as the crate writes them; else 0. So a leaf's place is known before its field is read. No call is left in it, as in `quick_leaves`.
+// Whether child i of an inner node and all after it are absent. A round of the loop takes two, since its jump back takes as long as both tests; where
+// one is left over it is the last, which is tested first.
+fn absent_from(archive: &[u8], w: usize, e: usize, at: usize, i: usize) -> bool
+    requires { ⌜ (bytes (widthFor w) ≡ w) × (e ≤ 15) × (at + innerSize (numbered w e) ≤ length (now archive)) × (i ≤ e) ⌝ }
+    ensures { λ r. ⌜ (r ≡ true → AbsentFrom (numbered w e) (now (archive .entry)) at i) ⌝ }
+{
+    let first = at + (8 + 16 * e);
+    if number_at(archive, first + w * e, w) != 1 {
+        return false;
+    }
+    let mut j = i;
+    while j < e {
+        if number_at(archive, first + w * j, w) != 1 {
+            return false;
+        }
+        if number_at(archive, first + w * (j + 1), w) != 1 {
+            return false;
+        }
+        j += 2;
+    }
+    true
+}
+
+// The entries of an inner node in its place and of its children, where these are leaves one right behind the other from the start of the range on, as
+// the crate writes them, and absent once no other leaf fits before the node; else 0. So a leaf's place, and with it its offset, is known before its field
+// is read. No call is left in it, as in `quick_leaves`.
 fn leaves_below(archive: &[u8], w: usize, e: usize, ones: usize, start: usize, at: usize) -> usize
     requires { ⌜ Numbers w e ones × (start ≤ at) × (at + innerSize (numbered w e) ≤ length (now archive)) ⌝ }
     ensures { λ r. ⌜ ((d : ℕ) → 0 < d → 0 < r → Below (numbered w e) (now (archive .entry)) d start at r) ⌝ }
@@ -49,26 +74,25 @@ fn leaves_below(archive: &[u8], w: usize, e: usize, ones: usize, start: usize, a
         return 0;
     }
     let first = at + (8 + 16 * e);
+    // The first child is the farthest: where its offset is negative, all are.
+    if ones / 2 < first - start {
+        return 0;
+    }
     let mut from = start;
     let mut total = e;
     for i in 0..e + 1 {
-        let field = first + w * i;
-        let offset = number_at(archive, field, w);
-        if offset == 1 {
-            continue;
-        }
-        let back = ones - offset;
-        if offset <= back {
+        let after = from + (8 + 16 * e);
+        if at < after + 8 {
+            if absent_from(archive, w, e, at, i) {
+                return total;
+            }
             return 0;
         }
-        if back != field - 1 - from {
+        let field = first + w * i;
+        if number_at(archive, field, w) != ones - (field - 1 - from) {
             return 0;
         }
         if archive[from] != 0 {
-            return 0;
-        }
-        let after = from + (8 + 16 * e);
-        if at < after + 8 {
             return 0;
         }
         let count = number_at(archive, after, w);
