@@ -54,16 +54,19 @@ pub fn at(layout: Layout) -> At {
 
 impl At {
     /// The recorded count, or the refusal.
+    #[inline]
     pub fn check(self, archive: &[u8]) -> Result<u32, u8> {
         answer(fieldmap::check_at(self.named, archive))
     }
 
     /// The recorded count, or the refusal.
+    #[inline]
     pub fn certify(self, archive: &[u8]) -> Result<u32, u8> {
         answer(fieldmap::certify_at(self.named, archive))
     }
 
     /// The number of entries written and the recorded count, or the refusal.
+    #[inline]
     pub fn walk(
         self,
         archive: &[u8],
@@ -76,6 +79,7 @@ impl At {
     }
 
     /// The entry with a key, nothing, or the refusal.
+    #[inline]
     pub fn lookup(self, archive: &[u8], key: u64) -> Result<Option<Found>, u8> {
         fieldmap::lookup_at(self.named, archive, key)
             .map(|found| found.map(|entry| (entry.key, entry.value, entry.position)))
@@ -83,6 +87,7 @@ impl At {
     }
 
     /// The bytes of its value, as a part of the archive, none where there is no such entry, or the refusal, for which the crate gives no bytes.
+    #[inline]
     pub fn lookup_bytes(self, archive: &[u8], key: u64) -> Result<&[u8], u8> {
         let named = Named {
             width: bits(self.layout.width, key),
@@ -97,11 +102,13 @@ impl At {
     }
 
     /// The number of keys found after one check, their values each in its place, or the refusal.
+    #[inline]
     pub fn lookup_many(self, archive: &[u8], keys: &[u64], values: &mut [u64]) -> Result<u32, u8> {
         answer(fieldmap::lookup_many_at(self.named, archive, keys, values))
     }
 
     /// The number of entries written and the number matching, in an archive that certify accepts, or the refusal.
+    #[inline]
     pub fn range(
         self,
         archive: &[u8],
@@ -116,6 +123,7 @@ impl At {
     }
 
     /// The same for a column query.
+    #[inline]
     pub fn column(
         self,
         archive: &[u8],
@@ -140,6 +148,7 @@ impl At {
     }
 
     /// The archive's end in the output, behind a header of so many bytes that stay, or the refusal.
+    #[inline]
     pub fn build(
         self,
         output: &mut [u8],
@@ -151,6 +160,7 @@ impl At {
     }
 
     /// The end that a build of so many entries behind a header will answer, or the refusal.
+    #[inline]
     pub fn build_length(self, count: usize, header: usize) -> Result<u32, u8> {
         answer(fieldmap::build_length_at(self.named, count, header))
     }

@@ -19,6 +19,7 @@ use crate::Layout;
 /// assert_eq!(out[..5], [0xff; 5]);
 /// assert_eq!(fieldmap::certify(&out[..112]), Ok(1));
 /// ```
+#[inline]
 pub fn build(
     out: &mut [u8],
     header: usize,
@@ -44,6 +45,7 @@ pub fn build(
 /// assert_eq!(build_at(Layout::new(Width::Bits32, 3)?, &mut out, 5, &[7], &[9]), Ok(80));
 /// # Ok::<(), fieldmap::Refusal>(())
 /// ```
+#[inline]
 pub fn build_at(
     layout: Layout,
     out: &mut [u8],
@@ -67,6 +69,7 @@ pub fn build_at(
 /// assert_eq!(fieldmap::build_length(40_001, 0), Err(Refusal::TooManyEntries));
 /// assert_eq!(fieldmap::build_length(1, 4_097), Err(Refusal::HeaderTooLong));
 /// ```
+#[inline]
 pub fn build_length(count: usize, header: usize) -> Result<usize, Refusal> {
     build_length_at(Layout::COMMON, count, header)
 }
@@ -86,6 +89,7 @@ pub fn build_length(count: usize, header: usize) -> Result<usize, Refusal> {
 /// assert_eq!(build_length_at(Width::Bits16.into(), 2_971, 0), Err(Refusal::OffsetOverflow));
 /// # Ok::<(), Refusal>(())
 /// ```
+#[inline]
 pub fn build_length_at(layout: Layout, count: usize, header: usize) -> Result<usize, Refusal> {
     answer(ffi::build_length(layout, count, header))
 }

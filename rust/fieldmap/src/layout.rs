@@ -93,6 +93,7 @@ impl Layout {
     /// assert_eq!(fieldmap::Layout::COMMON.width(), fieldmap::Width::Bits32);
     /// ```
     #[must_use]
+    #[inline]
     pub const fn width(self) -> Width {
         self.width
     }
@@ -103,6 +104,7 @@ impl Layout {
     /// assert_eq!(fieldmap::Layout::COMMON.entries(), 5);
     /// ```
     #[must_use]
+    #[inline]
     pub const fn entries(self) -> usize {
         self.entries
     }

@@ -34,6 +34,7 @@ pub struct Matched {
 /// assert_eq!(fieldmap::range(&archive, .., &mut keys, &mut values)?.matching, 3);
 /// # Ok::<(), fieldmap::Refusal>(())
 /// ```
+#[inline]
 pub fn range(
     archive: &[u8],
     bounds: impl RangeBounds<u64>,
@@ -59,6 +60,7 @@ pub fn range(
 /// assert_eq!((matched.matching, keys), (2, [5, 9]));
 /// # Ok::<(), fieldmap::Refusal>(())
 /// ```
+#[inline]
 pub fn range_at(
     layout: Layout,
     archive: &[u8],
@@ -118,6 +120,7 @@ pub fn range_at(
 /// assert_eq!((matched.matching, values), (4, [3, 4, 1, 2]));
 /// # Ok::<(), fieldmap::Refusal>(())
 /// ```
+#[inline]
 pub fn column(
     archive: &[u8],
     packing: Packing,
@@ -149,6 +152,7 @@ pub fn column(
 /// # Ok::<(), fieldmap::Refusal>(())
 /// ```
 #[allow(clippy::too_many_arguments)]
+#[inline]
 pub fn column_at(
     layout: Layout,
     archive: &[u8],

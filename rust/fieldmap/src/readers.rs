@@ -35,6 +35,7 @@ pub struct Walked {
 /// assert_eq!(fieldmap::check(&[1, 0, 0, 0, 0, 0, 0, 0]), Ok(0));
 /// assert_eq!(fieldmap::check(&[0; 7]), Err(fieldmap::Refusal::InvalidSubtreePointer));
 /// ```
+#[inline]
 pub fn check(archive: &[u8]) -> Result<usize, Refusal> {
     check_at(Layout::COMMON, archive)
 }
@@ -51,6 +52,7 @@ pub fn check(archive: &[u8]) -> Result<usize, Refusal> {
 /// assert_eq!(check_at(Width::Bits16.into(), &[1, 0, 0, 0]), Ok(0));
 /// assert_eq!(check_at(Layout::COMMON, &[1, 0, 0, 0]), Err(Refusal::InvalidSubtreePointer));
 /// ```
+#[inline]
 pub fn check_at(layout: Layout, archive: &[u8]) -> Result<usize, Refusal> {
     answer(ffi::check(layout, archive))
 }
@@ -74,6 +76,7 @@ pub fn check_at(layout: Layout, archive: &[u8]) -> Result<usize, Refusal> {
 /// assert_eq!(fieldmap::certify(&archive), Err(Refusal::KeysNotAscending));
 /// # Ok::<(), Refusal>(())
 /// ```
+#[inline]
 pub fn certify(archive: &[u8]) -> Result<usize, Refusal> {
     certify_at(Layout::COMMON, archive)
 }
@@ -93,6 +96,7 @@ pub fn certify(archive: &[u8]) -> Result<usize, Refusal> {
 /// assert_eq!(certify_at(layout, &archive), Ok(3));
 /// # Ok::<(), fieldmap::Refusal>(())
 /// ```
+#[inline]
 pub fn certify_at(layout: Layout, archive: &[u8]) -> Result<usize, Refusal> {
     answer(ffi::certify(layout, archive))
 }
@@ -114,6 +118,7 @@ pub fn certify_at(layout: Layout, archive: &[u8]) -> Result<usize, Refusal> {
 /// assert_eq!(fieldmap::lookup(&archive, 8)?, None);
 /// # Ok::<(), fieldmap::Refusal>(())
 /// ```
+#[inline]
 pub fn lookup(archive: &[u8], key: u64) -> Result<Option<Entry>, Refusal> {
     lookup_at(Layout::COMMON, archive, key)
 }
@@ -134,6 +139,7 @@ pub fn lookup(archive: &[u8], key: u64) -> Result<Option<Entry>, Refusal> {
 /// assert_eq!(found.map(|entry| entry.value), Some(9));
 /// # Ok::<(), fieldmap::Refusal>(())
 /// ```
+#[inline]
 pub fn lookup_at(layout: Layout, archive: &[u8], key: u64) -> Result<Option<Entry>, Refusal> {
     let (mut value, mut position) = (0, 0);
     let code = ffi::lookup(layout, archive, key, &mut value, &mut position);
@@ -159,6 +165,7 @@ pub fn lookup_at(layout: Layout, archive: &[u8], key: u64) -> Result<Option<Entr
 /// # Ok::<(), fieldmap::Refusal>(())
 /// ```
 #[must_use]
+#[inline]
 pub fn lookup_bytes(archive: &[u8], key: u64) -> &[u8] {
     lookup_bytes_at(Layout::COMMON, archive, key)
 }
@@ -175,6 +182,7 @@ pub fn lookup_bytes(archive: &[u8], key: u64) -> &[u8] {
 /// # Ok::<(), fieldmap::Refusal>(())
 /// ```
 #[must_use]
+#[inline]
 pub fn lookup_bytes_at(layout: Layout, archive: &[u8], key: u64) -> &[u8] {
     let mut start = 0;
     match answer(ffi::lookup_bytes(layout, archive, key, &mut start)) {
@@ -201,6 +209,7 @@ pub fn lookup_bytes_at(layout: Layout, archive: &[u8], key: u64) -> &[u8] {
 /// assert_eq!(values, [90, 0, 10]);
 /// # Ok::<(), fieldmap::Refusal>(())
 /// ```
+#[inline]
 pub fn lookup_many(archive: &[u8], keys: &[u64], values: &mut [u64]) -> Result<usize, Refusal> {
     lookup_many_at(Layout::COMMON, archive, keys, values)
 }
@@ -221,6 +230,7 @@ pub fn lookup_many(archive: &[u8], keys: &[u64], values: &mut [u64]) -> Result<u
 /// assert_eq!(values, [90, 0, 10]);
 /// # Ok::<(), fieldmap::Refusal>(())
 /// ```
+#[inline]
 pub fn lookup_many_at(
     layout: Layout,
     archive: &[u8],
@@ -246,6 +256,7 @@ pub fn lookup_many_at(
 /// assert_eq!((keys, values), ([1, 5], [10, 50, 0, 0]));
 /// # Ok::<(), fieldmap::Refusal>(())
 /// ```
+#[inline]
 pub fn walk(archive: &[u8], keys: &mut [u64], values: &mut [u64]) -> Result<Walked, Refusal> {
     walk_at(Layout::COMMON, archive, keys, values)
 }
@@ -266,6 +277,7 @@ pub fn walk(archive: &[u8], keys: &mut [u64], values: &mut [u64]) -> Result<Walk
 /// assert_eq!((walked.written, walked.count, keys), (2, 3, [1, 5]));
 /// # Ok::<(), fieldmap::Refusal>(())
 /// ```
+#[inline]
 pub fn walk_at(
     layout: Layout,
     archive: &[u8],

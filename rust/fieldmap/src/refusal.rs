@@ -162,12 +162,19 @@ impl fmt::Display for NoSuchRefusal {
 impl core::error::Error for NoSuchRefusal {}
 
 /// An answer as the library codes it: a number from 0 on, or minus the refusal's number, -1 to -18 or -24.
+#[inline]
 pub(crate) fn answer(code: i64) -> Result<usize, Refusal> {
     if code >= 0 {
         return Ok(code as usize);
     }
+    Err(coded(code))
+}
+
+/// The refusal of an answer below 0.
+#[cold]
+fn coded(code: i64) -> Refusal {
     let refusal = Refusal::ALL
         .into_iter()
         .find(|why| -i64::from(why.number()) == code);
-    Err(refusal.expect("the library answers by a refusal's number"))
+    refusal.expect("the library answers by a refusal's number")
 }

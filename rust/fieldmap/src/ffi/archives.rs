@@ -6,6 +6,7 @@ use super::{
 };
 use crate::Layout;
 
+#[inline]
 pub fn check(layout: Layout, archive: &[u8]) -> i64 {
     // SAFETY: as `ffi.rs` says.
     unsafe {
@@ -18,6 +19,7 @@ pub fn check(layout: Layout, archive: &[u8]) -> i64 {
     }
 }
 
+#[inline]
 pub fn certify(layout: Layout, archive: &[u8]) -> i64 {
     // SAFETY: as `ffi.rs` says.
     unsafe {
@@ -30,6 +32,7 @@ pub fn certify(layout: Layout, archive: &[u8]) -> i64 {
     }
 }
 
+#[inline]
 pub fn lookup(
     layout: Layout,
     archive: &[u8],
@@ -51,6 +54,7 @@ pub fn lookup(
     }
 }
 
+#[inline]
 pub fn lookup_bytes(layout: Layout, archive: &[u8], key: u64, start: &mut u64) -> i64 {
     // SAFETY: as `ffi.rs` says.
     unsafe {
@@ -65,6 +69,7 @@ pub fn lookup_bytes(layout: Layout, archive: &[u8], key: u64, start: &mut u64) -
     }
 }
 
+#[inline]
 pub fn lookup_many(layout: Layout, archive: &[u8], keys: &[u64], values: &mut [u64]) -> i64 {
     // SAFETY: as `ffi.rs` says.
     unsafe {
@@ -81,6 +86,7 @@ pub fn lookup_many(layout: Layout, archive: &[u8], keys: &[u64], values: &mut [u
     }
 }
 
+#[inline]
 pub fn walk(
     layout: Layout,
     archive: &[u8],
@@ -105,6 +111,7 @@ pub fn walk(
 }
 
 /// A bound passes as its kind and its key.
+#[inline]
 pub fn range(
     layout: Layout,
     archive: &[u8],
@@ -135,6 +142,7 @@ pub fn range(
 }
 
 /// The packing, the examination and its eye pass together, and so do the two ends of x.
+#[inline]
 pub fn column(
     layout: Layout,
     archive: &[u8],
@@ -165,6 +173,7 @@ pub fn column(
     }
 }
 
+#[inline]
 pub fn build(layout: Layout, out: &mut [u8], header: usize, keys: &[u64], values: &[u64]) -> i64 {
     // SAFETY: as `ffi.rs` says.
     unsafe {
@@ -182,6 +191,7 @@ pub fn build(layout: Layout, out: &mut [u8], header: usize, keys: &[u64], values
     }
 }
 
+#[inline]
 pub fn build_length(layout: Layout, count: usize, header: usize) -> i64 {
     // SAFETY: no pointer passes.
     unsafe { fieldmap_build_length(layout.width() as u8, layout.entries(), count, header) }
