@@ -174,6 +174,17 @@ static void largest(uint8_t bits, size_t in_node, int64_t length)
     EXPECT(fieldmap_certify(LAYOUT, out, (size_t)length) == FIELDMAP_MOST_ENTRIES);
 }
 
+/* Of the most entries behind the longest header no layout makes a longer archive than 64 bits with 3 entries a node. */
+static void longest(void)
+{
+    for (entries = FIELDMAP_FEWEST_IN_NODE; entries <= FIELDMAP_MOST_IN_NODE; entries++) {
+        for (width = FIELDMAP_WIDTH_32; width <= FIELDMAP_WIDTH_64; width = (uint8_t)(2 * width)) {
+            int64_t end = fieldmap_build_length(LAYOUT, FIELDMAP_MOST_ENTRIES, FIELDMAP_LONGEST_HEADER);
+            EXPECT(end > 0 && (width == FIELDMAP_WIDTH_64 && entries == 3 ? end == 937504 : end < 937504));
+        }
+    }
+}
+
 static void by_width(size_t i)
 {
     width = widths[i].width;
@@ -210,6 +221,7 @@ int main(void)
     largest(FIELDMAP_WIDTH_64, 5, 821376);
     largest(FIELDMAP_WIDTH_32, 15, 692112);
     largest(FIELDMAP_WIDTH_64, 15, 702808);
+    longest();
     printf("every layout is as it should be\n");
     return 0;
 }

@@ -9,18 +9,18 @@ use lib.IntN.{ℤ}
 use lib.ListN.{length}
 use Rattle.format.specs.declared.Bound.{Bound}
 use Rattle.format.specs.declared.Packing.{Packing}
-use Rattle.format.specs.Layout.{four, Layout, entriesInRange, leafSize, innerSize, standard, nested}
+use Rattle.format.specs.Layout.{Width, four, Layout, entriesInRange, leafSize, innerSize, standard, nested}
 use Rattle.format.specs.Refusal.{Answer, gives, refuses, From}
 use Rattle.format.specs.Check.{Checked, refused, counted, checkBody, checkArchive}
 use Rattle.format.specs.Certify.{certify}
 use Rattle.format.specs.Calls.{columnCall, columnKeys, columnValues}
-use Rattle.format.specs.Build.{height, lastLevel, pairs, build, buildLength, outBy, outAfter}
+use Rattle.format.specs.Build.{logFrom, height, lastLevel, pairs, build, buildLength, outBy, outAfter}
 use Rattle.format.specs.Laws.Check.Refusals.{check-by, certify-by, leaf-6, only-24}
 use Rattle.fieldmap.specs.Refusals.{build-by, length-by, column-refused-by}
 use Rattle.format.specs.Calls.{lookupCall, bytesCall, placeCall, walkCall, walkKeys, walkValues, rangeCall, rangeKeys, rangeValues}
 use Rattle.format.specs.Node.{leaf, leafCount}
 use Rattle.format.specs.Laws.Build.Height.{height-log}
-use Rattle.format.specs.Laws.Calls.Accepted.{lookup-refuses, bytes-refuses, place-refuses, walk-refuses, walk-keys-refuses, walk-values-refuses}
+use Rattle.format.specs.Laws.Calls.Accepted.{is-archive, lookup-refuses, bytes-refuses, place-refuses, walk-refuses, walk-keys-refuses, walk-values-refuses}
 use Rattle.format.specs.Laws.Calls.Certified.{range-refuses, range-keys-refuses, range-values-refuses, column-uncertified}
 use Rattle.format.specs.Laws.Build.Longest.{height-most}
 use Rattle.format.specs.Laws.Build.Lengths.{build-most}
@@ -43,7 +43,7 @@ module _ (L : Layout) (least : 3 ≤ L .entries) (most : L .entries ≤ 15) wher
   n9-last-level n = refl
 
   -- "Limits of 40,000 entries and depth 16 hold for every e": so many entries have at most 8 levels, of 14 that the check lets through, and an archive that
-  -- is built of them, behind whatever header, is not too long for it.
+  -- is built of them, behind whatever header, is not too long for it. With 3 entries a node they have 8.
   pub n9-levels : (n : ℕ) → 0 < n → n ≤ 40000 → height L n ≤ 8
   n9-levels n some few = height-most L least most n some few
 
@@ -59,7 +59,13 @@ module _ (L : Layout) (least : 3 ≤ L .entries) (most : L .entries ≤ 15) wher
   pub n9-refusal-6 : (s : List ℕ) (check : ℕ → ℕ → ℕ → Checked) (from p : ℕ) → (checkBody L s check from p leaf ≡ refused 6) ↔ (L .entries < leafCount L s p)
   n9-refusal-6 s check from p = leaf-6 L s check from p
 
--- "What an accepted archive guarantees is shown for all these layouts together": Demands.antt has it over every layout.
+pub n9-most-levels : (w : Width) → height (record { width = w; entries = 3 }) 40000 ≡ 8
+unfolding height logFrom
+n9-most-levels w = refl
+
+-- "What an accepted archive guarantees is shown for all these layouts together": Demands.antt has it over every layout, and what is accepted has one of these.
+pub n9-accepted : (L : Layout) (s : List ℕ) (n : ℕ) → counted (checkArchive L standard s) ≡ gives n → (3 ≤ L .entries) × (L .entries ≤ 15)
+n9-accepted L s n e = let A = is-archive L standard s n e in (A .least, A .most)
 
 -- "Refused: 24 when the number is outside 3 to 15, before every other refusal": each call that builds, checks or reads, whatever else it is given. Lent lists
 -- stay, and the second form of lookup gives the empty part, at the archive's start.
