@@ -17,9 +17,11 @@ pub extern "C" fn fieldmap_lookup_many(
     keys: &[u64],
     values: &mut [u64],
 ) -> i64
-    ensures answer { λ r. ⌜ r ≡ coded (λ n. n) (manyCall (layoutBy width entries) standard (now (archive .entry)) (now (keys .entry)) (now (values .entry))) ⌝ }
+    ensures answer { λ r. ⌜ r
+        ≡ coded (λ n. n) (manyCall (layoutBy width entries) standard (now (archive .entry)) (now (keys .entry)) (now (values .entry))) ⌝ }
     ensures told { λ r. ⌜ Tells r (manyCall (layoutBy width entries) standard (now (archive .entry)) (now (keys .entry)) (now (values .entry))) ⌝ }
-    ensures values { λ r. ⌜ now (values .exit) ≡ manyValues (layoutBy width entries) standard (now (archive .entry)) (now (keys .entry)) (now (values .entry)) ⌝ }
+    ensures values { λ r. ⌜ now (values .exit)
+        ≡ manyValues (layoutBy width entries) standard (now (archive .entry)) (now (keys .entry)) (now (values .entry)) ⌝ }
 {
     let layout = codes::layout(width, entries);
     match readers::look_up_many(archive, layout, keys, values) {

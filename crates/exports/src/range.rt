@@ -72,15 +72,20 @@ pub extern "C" fn fieldmap_column(
     matching: &mut u64,
 ) -> i64
     ensures answer { λ r. ⌜ r ≡ coded rangeWritten
-        (columnCall (layoutBy width entries) standard (now (archive .entry)) (packingOf packing) examination eye a b (now (keys .entry)) (now (values .entry))) ⌝ }
+        (columnCall (layoutBy width entries) standard (now (archive .entry)) (packingOf packing) examination eye a b
+        (now (keys .entry)) (now (values .entry))) ⌝ }
     ensures told { λ r. ⌜ Tells r
-        (columnCall (layoutBy width entries) standard (now (archive .entry)) (packingOf packing) examination eye a b (now (keys .entry)) (now (values .entry))) ⌝ }
+        (columnCall (layoutBy width entries) standard (now (archive .entry)) (packingOf packing) examination eye a b
+        (now (keys .entry)) (now (values .entry))) ⌝ }
     ensures keys { λ r. ⌜ now (keys .exit)
-        ≡ columnKeys (layoutBy width entries) standard (now (archive .entry)) (packingOf packing) examination eye a b (now (keys .entry)) (now (values .entry)) ⌝ }
+        ≡ columnKeys (layoutBy width entries) standard (now (archive .entry)) (packingOf packing) examination eye a b
+        (now (keys .entry)) (now (values .entry)) ⌝ }
     ensures values { λ r. ⌜ now (values .exit)
-        ≡ columnValues (layoutBy width entries) standard (now (archive .entry)) (packingOf packing) examination eye a b (now (keys .entry)) (now (values .entry)) ⌝ }
+        ≡ columnValues (layoutBy width entries) standard (now (archive .entry)) (packingOf packing) examination eye a b
+        (now (keys .entry)) (now (values .entry)) ⌝ }
     ensures matching { λ r. ⌜ now (matching .exit) ≡ stored rangeMatching
-        (columnCall (layoutBy width entries) standard (now (archive .entry)) (packingOf packing) examination eye a b (now (keys .entry)) (now (values .entry)))
+        (columnCall (layoutBy width entries) standard (now (archive .entry)) (packingOf packing) examination eye a b
+        (now (keys .entry)) (now (values .entry)))
         (now (matching .entry)) ⌝ }
 {
     let by = codes::packing(packing);

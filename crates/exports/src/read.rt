@@ -43,7 +43,8 @@ pub extern "C" fn fieldmap_lookup(
 ) -> i64
     ensures answer { λ r. ⌜ r ≡ coded foundFlag (lookupCall (layoutBy width entries) standard (now (archive .entry)) key) ⌝ }
     ensures told { λ r. ⌜ Tells r (lookupCall (layoutBy width entries) standard (now (archive .entry)) key) ⌝ }
-    ensures value { λ r. ⌜ now (value .exit) ≡ storedFound entryValue (lookupCall (layoutBy width entries) standard (now (archive .entry)) key) (now (value .entry)) ⌝ }
+    ensures value { λ r. ⌜ now (value .exit)
+        ≡ storedFound entryValue (lookupCall (layoutBy width entries) standard (now (archive .entry)) key) (now (value .entry)) ⌝ }
     ensures position { λ r. ⌜ now (position .exit)
         ≡ storedFound entryPosition (lookupCall (layoutBy width entries) standard (now (archive .entry)) key) (now (position .entry)) ⌝ }
 {
@@ -98,10 +99,13 @@ pub extern "C" fn fieldmap_walk(
     ensures answer { λ r. ⌜ r
         ≡ coded walkWritten (walkCall (layoutBy width entries) standard (now (archive .entry)) (now (keys .entry)) (now (values .entry))) ⌝ }
     ensures told { λ r. ⌜ Tells r (walkCall (layoutBy width entries) standard (now (archive .entry)) (now (keys .entry)) (now (values .entry))) ⌝ }
-    ensures keys { λ r. ⌜ now (keys .exit) ≡ walkKeys (layoutBy width entries) standard (now (archive .entry)) (now (keys .entry)) (now (values .entry)) ⌝ }
-    ensures values { λ r. ⌜ now (values .exit) ≡ walkValues (layoutBy width entries) standard (now (archive .entry)) (now (keys .entry)) (now (values .entry)) ⌝ }
+    ensures keys { λ r. ⌜ now (keys .exit)
+        ≡ walkKeys (layoutBy width entries) standard (now (archive .entry)) (now (keys .entry)) (now (values .entry)) ⌝ }
+    ensures values { λ r. ⌜ now (values .exit)
+        ≡ walkValues (layoutBy width entries) standard (now (archive .entry)) (now (keys .entry)) (now (values .entry)) ⌝ }
     ensures count { λ r. ⌜ now (count .exit)
-        ≡ stored walkCount (walkCall (layoutBy width entries) standard (now (archive .entry)) (now (keys .entry)) (now (values .entry))) (now (count .entry)) ⌝ }
+        ≡ stored walkCount (walkCall (layoutBy width entries) standard (now (archive .entry)) (now (keys .entry)) (now (values .entry)))
+        (now (count .entry)) ⌝ }
 {
     match fieldmap::walk(codes::layout(width, entries), archive, keys, values) {
         WalkAnswer::Refused(why) => refused(why),

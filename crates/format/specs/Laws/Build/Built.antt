@@ -10,7 +10,8 @@ use lib.ListN.{length, replicate, length-append, length-replicate}
 use lib.Dec.{ltb}
 use borrow.Author.Tests.{le-leb, lt-ltb, eq-eqb}
 use Rattle.format.specs.declared.Entry.{Entry}
-use Rattle.format.specs.Layout.{Width, two, four, eight, bytes, Layout, entriesInRange, signBits, pointer, innerSize, recordSize, recordAlign, Limits, nested}
+use Rattle.format.specs.Layout.{Width, two, four, eight, bytes, Layout, entriesInRange, signBits, pointer, innerSize, recordSize, recordAlign}
+use Rattle.format.specs.Layout.{Limits, nested}
 use Rattle.format.specs.Bytes.{leBytes}
 use Rattle.format.specs.RelPtr.{at, target}
 use Rattle.format.specs.Align.{zerosTo}
@@ -60,7 +61,8 @@ module _ (L : Layout) (M : Limits) (s : List ℕ) where
   recorded-passes : Recorded → checkArchive L M s ≡ checkRoot L M s (recorded L s)
   unfolding checkArchive
   recorded-passes R =
-      pass (R .range) _ _ ∙ pass (le-leb _ _ (R .small)) _ _ ∙ pass (le-leb _ _ (R .fits)) _ _ ∙ pass (eq-eqb _ _ (R .aligned)) _ _ ∙ pass (lt-ltb _ _ (R .enters)) _ _
+      pass (R .range) _ _ ∙ pass (le-leb _ _ (R .small)) _ _ ∙ pass (le-leb _ _ (R .fits)) _ _
+      ∙ pass (eq-eqb _ _ (R .aligned)) _ _ ∙ pass (lt-ltb _ _ (R .enters)) _ _
 
   -- With a root that holds n + 1 entries.
   record Sure (n : ℕ) (es : List KeyValue) : Type 0 where

@@ -63,7 +63,8 @@ verify-requires c κs =
     let e = c .push-subtree-range .ensures in
     let start : tie.Start = search in
     let in-range : tie.Else1 = search in
-    (range-in (layoutOf (start .args .layout)) (named in-range) .1, omega arith, omega arith, ap (λ (r : SubtreeRange). r .start .0) e, ap (λ (r : SubtreeRange). r .end .0) e, refl)
+    let few = range-in (layoutOf (start .args .layout)) (named in-range) .1 in
+    (few, omega arith, omega arith, ap (λ (r : SubtreeRange). r .start .0) e, ap (λ (r : SubtreeRange). r .end .0) e, refl)
 
 returns-5 : tie.Need-returns-5
 unfolding standard
