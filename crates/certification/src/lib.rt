@@ -9,7 +9,7 @@ use offsets::rel_ptr::is_invalid_at;
 ghost use mathlib.Core.Path.{_≡_};
 ghost use Prim.Native.Nat.{_+_, _<_, _≤_};
 ghost use lib.ListN.{length, getD};
-ghost use Rattle.format.specs.Layout.{layoutOf, standard, nested, headSize};
+ghost use Rattle.format.specs.Layout.{layoutOf, server, nested, headSize};
 ghost use Rattle.format.specs.Node.{kind, slot};
 ghost use Rattle.format.specs.Entries.{listAt};
 ghost use Rattle.format.specs.Certify.{hollow, hollowAt, ascends};
@@ -61,7 +61,7 @@ fn note_slot(archive: &[u8], layout: Layout, pos: Position, i: usize, order: Key
 
 // A leaf, after the keys passed before it; `known` tells whether a hollow node is known already. A leaf without slots is hollow.
 fn note_leaf(archive: &[u8], layout: Layout, pos: Position, seen: KeyOrder, known: usize) -> Pass
-    requires { ⌜ (layout .entries ≤ 15) × Node (layoutOf layout) standard (now archive) (pos .0) × (getD (now archive) (pos .0) 0 ≡ 0) ⌝ }
+    requires { ⌜ (layout .entries ≤ 15) × Node (layoutOf layout) server (now archive) (pos .0) × (getD (now archive) (pos .0) 0 ≡ 0) ⌝ }
     ensures { λ r. ⌜ Passed (layoutOf layout) (now (archive .entry)) (pos .0) seen known r ⌝ }
 {
     let n = leaf_len(archive, layout, pos);
@@ -101,7 +101,7 @@ fn certify_inner(
     ascends: usize,
     known: usize,
 ) -> Pass
-    requires { ⌜ (layout .entries ≤ 15) × Node (layoutOf layout) standard (now archive) (pos .0) × (getD (now archive) (pos .0) 0 ≡ 0 → ⊥) ⌝ }
+    requires { ⌜ (layout .entries ≤ 15) × Node (layoutOf layout) server (now archive) (pos .0) × (getD (now archive) (pos .0) 0 ≡ 0 → ⊥) ⌝ }
     ensures { λ r. ⌜ Passed (layoutOf layout) (now (archive .entry)) (pos .0) (record { some = some; last = last; ascends = ascends }) known r ⌝ }
 {
     let mut hollow = note_hollow(archive, layout, pos, known);
@@ -127,7 +127,7 @@ fn certify_inner(
 
 // The nodes from `pos` on.
 fn certify_node(archive: &[u8], layout: Layout, pos: Position, seen: KeyOrder, known: usize) -> Pass
-    requires { ⌜ (layout .entries ≤ 15) × Node (layoutOf layout) standard (now archive) (pos .0) ⌝ }
+    requires { ⌜ (layout .entries ≤ 15) × Node (layoutOf layout) server (now archive) (pos .0) ⌝ }
     ensures { λ r. ⌜ Passed (layoutOf layout) (now (archive .entry)) (pos .0) seen known r ⌝ }
 {
     let p = pos.0;
@@ -143,9 +143,9 @@ fn certify_node(archive: &[u8], layout: Layout, pos: Position, seen: KeyOrder, k
 // The nodes from the root on. A hollow node anywhere comes before keys that do not ascend, so neither ends the pass. The root does not go through
 // `certify_node`, so that this one has a single caller and becomes part of `certify_inner` in the compiled program: a leaf then takes no call.
 pub fn certify(archive: &[u8], layout: Layout, root: Position) -> Survey
-    requires { ⌜ (layout .entries ≤ 15) × Node (layoutOf layout) standard (now archive) (root .0) ⌝ }
-    ensures { λ r. ⌜ (r .hollow ≡ hollowAt (layoutOf layout) (now (archive .entry)) (nested standard) (root .0))
-        × (r .ascends ≡ ascends (listAt (layoutOf layout) (now (archive .entry)) (nested standard) (root .0))) ⌝ }
+    requires { ⌜ (layout .entries ≤ 15) × Node (layoutOf layout) server (now archive) (root .0) ⌝ }
+    ensures { λ r. ⌜ (r .hollow ≡ hollowAt (layoutOf layout) (now (archive .entry)) (nested server) (root .0))
+        × (r .ascends ≡ ascends (listAt (layoutOf layout) (now (archive .entry)) (nested server) (root .0))) ⌝ }
 {
     let start = KeyOrder {
         some: 0,

@@ -3,7 +3,7 @@ use codes::given;
 use codes::refused;
 use readers::ManyAnswer;
 ghost use mathlib.Core.Path.{_≡_};
-ghost use Rattle.format.specs.Layout.{standard};
+ghost use Rattle.format.specs.Layout.{server};
 ghost use Rattle.codes.specs.Answers.{coded, Tells, layoutBy};
 ghost use Rattle.lookups.specs.Many.{manyCall, manyValues};
 
@@ -18,10 +18,10 @@ pub extern "C" fn fieldmap_lookup_many(
     values: &mut [u64],
 ) -> i64
     ensures answer { λ r. ⌜ r
-        ≡ coded (λ n. n) (manyCall (layoutBy width entries) standard (now (archive .entry)) (now (keys .entry)) (now (values .entry))) ⌝ }
-    ensures told { λ r. ⌜ Tells r (manyCall (layoutBy width entries) standard (now (archive .entry)) (now (keys .entry)) (now (values .entry))) ⌝ }
+        ≡ coded (λ n. n) (manyCall (layoutBy width entries) server (now (archive .entry)) (now (keys .entry)) (now (values .entry))) ⌝ }
+    ensures told { λ r. ⌜ Tells r (manyCall (layoutBy width entries) server (now (archive .entry)) (now (keys .entry)) (now (values .entry))) ⌝ }
     ensures values { λ r. ⌜ now (values .exit)
-        ≡ manyValues (layoutBy width entries) standard (now (archive .entry)) (now (keys .entry)) (now (values .entry)) ⌝ }
+        ≡ manyValues (layoutBy width entries) server (now (archive .entry)) (now (keys .entry)) (now (values .entry)) ⌝ }
 {
     let layout = codes::layout(width, entries);
     match readers::look_up_many(archive, layout, keys, values) {

@@ -4,7 +4,7 @@ use codes::given;
 use codes::refused;
 use readers::RangeAnswer;
 ghost use mathlib.Core.Path.{_≡_};
-ghost use Rattle.format.specs.Layout.{standard};
+ghost use Rattle.format.specs.Layout.{server};
 ghost use Rattle.format.specs.Calls.{rangeCall, rangeKeys, rangeValues, columnCall, columnKeys, columnValues};
 ghost use Rattle.codes.specs.Answers.{coded, Tells, layoutBy, stored, boundOf, packingOf, rangeWritten, rangeMatching};
 
@@ -23,18 +23,18 @@ pub extern "C" fn fieldmap_range(
     matching: &mut u64,
 ) -> i64
     ensures answer { λ r. ⌜ r ≡ coded rangeWritten
-        (rangeCall (layoutBy width entries) standard (now (archive .entry)) (boundOf «lower_kind» lower) (boundOf «upper_kind» upper)
+        (rangeCall (layoutBy width entries) server (now (archive .entry)) (boundOf «lower_kind» lower) (boundOf «upper_kind» upper)
         (now (keys .entry)) (now (values .entry))) ⌝ }
-    ensures told { λ r. ⌜ Tells r (rangeCall (layoutBy width entries) standard (now (archive .entry)) (boundOf «lower_kind» lower) (boundOf «upper_kind» upper)
+    ensures told { λ r. ⌜ Tells r (rangeCall (layoutBy width entries) server (now (archive .entry)) (boundOf «lower_kind» lower) (boundOf «upper_kind» upper)
         (now (keys .entry)) (now (values .entry))) ⌝ }
     ensures keys { λ r. ⌜ now (keys .exit)
-        ≡ rangeKeys (layoutBy width entries) standard (now (archive .entry)) (boundOf «lower_kind» lower) (boundOf «upper_kind» upper)
+        ≡ rangeKeys (layoutBy width entries) server (now (archive .entry)) (boundOf «lower_kind» lower) (boundOf «upper_kind» upper)
         (now (keys .entry)) (now (values .entry)) ⌝ }
     ensures values { λ r. ⌜ now (values .exit)
-        ≡ rangeValues (layoutBy width entries) standard (now (archive .entry)) (boundOf «lower_kind» lower) (boundOf «upper_kind» upper)
+        ≡ rangeValues (layoutBy width entries) server (now (archive .entry)) (boundOf «lower_kind» lower) (boundOf «upper_kind» upper)
         (now (keys .entry)) (now (values .entry)) ⌝ }
     ensures matching { λ r. ⌜ now (matching .exit) ≡ stored rangeMatching
-        (rangeCall (layoutBy width entries) standard (now (archive .entry)) (boundOf «lower_kind» lower) (boundOf «upper_kind» upper)
+        (rangeCall (layoutBy width entries) server (now (archive .entry)) (boundOf «lower_kind» lower) (boundOf «upper_kind» upper)
         (now (keys .entry)) (now (values .entry)))
         (now (matching .entry)) ⌝ }
 {
@@ -72,19 +72,19 @@ pub extern "C" fn fieldmap_column(
     matching: &mut u64,
 ) -> i64
     ensures answer { λ r. ⌜ r ≡ coded rangeWritten
-        (columnCall (layoutBy width entries) standard (now (archive .entry)) (packingOf packing) examination eye a b
+        (columnCall (layoutBy width entries) server (now (archive .entry)) (packingOf packing) examination eye a b
         (now (keys .entry)) (now (values .entry))) ⌝ }
     ensures told { λ r. ⌜ Tells r
-        (columnCall (layoutBy width entries) standard (now (archive .entry)) (packingOf packing) examination eye a b
+        (columnCall (layoutBy width entries) server (now (archive .entry)) (packingOf packing) examination eye a b
         (now (keys .entry)) (now (values .entry))) ⌝ }
     ensures keys { λ r. ⌜ now (keys .exit)
-        ≡ columnKeys (layoutBy width entries) standard (now (archive .entry)) (packingOf packing) examination eye a b
+        ≡ columnKeys (layoutBy width entries) server (now (archive .entry)) (packingOf packing) examination eye a b
         (now (keys .entry)) (now (values .entry)) ⌝ }
     ensures values { λ r. ⌜ now (values .exit)
-        ≡ columnValues (layoutBy width entries) standard (now (archive .entry)) (packingOf packing) examination eye a b
+        ≡ columnValues (layoutBy width entries) server (now (archive .entry)) (packingOf packing) examination eye a b
         (now (keys .entry)) (now (values .entry)) ⌝ }
     ensures matching { λ r. ⌜ now (matching .exit) ≡ stored rangeMatching
-        (columnCall (layoutBy width entries) standard (now (archive .entry)) (packingOf packing) examination eye a b
+        (columnCall (layoutBy width entries) server (now (archive .entry)) (packingOf packing) examination eye a b
         (now (keys .entry)) (now (values .entry)))
         (now (matching .entry)) ⌝ }
 {

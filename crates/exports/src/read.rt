@@ -6,7 +6,7 @@ use readers::LookupAnswer;
 use readers::WalkAnswer;
 ghost use mathlib.Core.Path.{_≡_};
 ghost use lib.ListN.{take, drop};
-ghost use Rattle.format.specs.Layout.{standard};
+ghost use Rattle.format.specs.Layout.{server};
 ghost use Rattle.format.specs.Check.{counted, checkArchive};
 ghost use Rattle.format.specs.Certify.{certify};
 ghost use Rattle.format.specs.Calls.{lookupCall, bytesCall, walkCall, walkKeys, walkValues};
@@ -16,8 +16,8 @@ ghost use Rattle.codes.specs.Answers.{entryValue, entryPosition, walkWritten, w
 // The recorded count, or 24, or the first fault of 1 to 7.
 #[no_mangle]
 pub extern "C" fn fieldmap_check(width: u8, entries: usize, archive: &[u8]) -> i64
-    ensures { λ r. ⌜ r ≡ coded (λ n. n) (counted (checkArchive (layoutBy width entries) standard (now (archive .entry)))) ⌝ }
-    ensures told { λ r. ⌜ Tells r (counted (checkArchive (layoutBy width entries) standard (now (archive .entry)))) ⌝ }
+    ensures { λ r. ⌜ r ≡ coded (λ n. n) (counted (checkArchive (layoutBy width entries) server (now (archive .entry)))) ⌝ }
+    ensures told { λ r. ⌜ Tells r (counted (checkArchive (layoutBy width entries) server (now (archive .entry)))) ⌝ }
 {
     counted(fieldmap::check(codes::layout(width, entries), archive))
 }
@@ -25,8 +25,8 @@ pub extern "C" fn fieldmap_check(width: u8, entries: usize, archive: &[u8]) -> i
 // The recorded count, or 24, or the first fault of 1 to 9.
 #[no_mangle]
 pub extern "C" fn fieldmap_certify(width: u8, entries: usize, archive: &[u8]) -> i64
-    ensures { λ r. ⌜ r ≡ coded (λ n. n) (counted (certify (layoutBy width entries) standard (now (archive .entry)))) ⌝ }
-    ensures told { λ r. ⌜ Tells r (counted (certify (layoutBy width entries) standard (now (archive .entry)))) ⌝ }
+    ensures { λ r. ⌜ r ≡ coded (λ n. n) (counted (certify (layoutBy width entries) server (now (archive .entry)))) ⌝ }
+    ensures told { λ r. ⌜ Tells r (counted (certify (layoutBy width entries) server (now (archive .entry)))) ⌝ }
 {
     counted(fieldmap::certify(codes::layout(width, entries), archive))
 }
@@ -41,12 +41,12 @@ pub extern "C" fn fieldmap_lookup(
     value: &mut u64,
     position: &mut u64,
 ) -> i64
-    ensures answer { λ r. ⌜ r ≡ coded foundFlag (lookupCall (layoutBy width entries) standard (now (archive .entry)) key) ⌝ }
-    ensures told { λ r. ⌜ Tells r (lookupCall (layoutBy width entries) standard (now (archive .entry)) key) ⌝ }
+    ensures answer { λ r. ⌜ r ≡ coded foundFlag (lookupCall (layoutBy width entries) server (now (archive .entry)) key) ⌝ }
+    ensures told { λ r. ⌜ Tells r (lookupCall (layoutBy width entries) server (now (archive .entry)) key) ⌝ }
     ensures value { λ r. ⌜ now (value .exit)
-        ≡ storedFound entryValue (lookupCall (layoutBy width entries) standard (now (archive .entry)) key) (now (value .entry)) ⌝ }
+        ≡ storedFound entryValue (lookupCall (layoutBy width entries) server (now (archive .entry)) key) (now (value .entry)) ⌝ }
     ensures position { λ r. ⌜ now (position .exit)
-        ≡ storedFound entryPosition (lookupCall (layoutBy width entries) standard (now (archive .entry)) key) (now (position .entry)) ⌝ }
+        ≡ storedFound entryPosition (lookupCall (layoutBy width entries) server (now (archive .entry)) key) (now (position .entry)) ⌝ }
 {
     match fieldmap::lookup(codes::layout(width, entries), archive, key) {
         LookupAnswer::Refused(why) => refused(why),
@@ -69,12 +69,12 @@ pub extern "C" fn fieldmap_lookup_bytes(
     key: u64,
     start: &mut u64,
 ) -> i64
-    ensures answer { λ r. ⌜ r ≡ coded partLength (lookupCall (layoutBy width entries) standard (now (archive .entry)) key) ⌝ }
-    ensures told { λ r. ⌜ Tells r (lookupCall (layoutBy width entries) standard (now (archive .entry)) key) ⌝ }
+    ensures answer { λ r. ⌜ r ≡ coded partLength (lookupCall (layoutBy width entries) server (now (archive .entry)) key) ⌝ }
+    ensures told { λ r. ⌜ Tells r (lookupCall (layoutBy width entries) server (now (archive .entry)) key) ⌝ }
     ensures start { λ r. ⌜ now (start .exit)
-        ≡ storedFound entryPosition (lookupCall (layoutBy width entries) standard (now (archive .entry)) key) (now (start .entry)) ⌝ }
+        ≡ storedFound entryPosition (lookupCall (layoutBy width entries) server (now (archive .entry)) key) (now (start .entry)) ⌝ }
     ensures part { λ r. ⌜ take (lengthTold r) (drop (now (start .exit)) (now (archive .entry)))
-        ≡ bytesCall (layoutBy width entries) standard (now (archive .entry)) key ⌝ }
+        ≡ bytesCall (layoutBy width entries) server (now (archive .entry)) key ⌝ }
 {
     match fieldmap::lookup(codes::layout(width, entries), archive, key) {
         LookupAnswer::Refused(fault) => refused(fault),
@@ -97,14 +97,14 @@ pub extern "C" fn fieldmap_walk(
     count: &mut u64,
 ) -> i64
     ensures answer { λ r. ⌜ r
-        ≡ coded walkWritten (walkCall (layoutBy width entries) standard (now (archive .entry)) (now (keys .entry)) (now (values .entry))) ⌝ }
-    ensures told { λ r. ⌜ Tells r (walkCall (layoutBy width entries) standard (now (archive .entry)) (now (keys .entry)) (now (values .entry))) ⌝ }
+        ≡ coded walkWritten (walkCall (layoutBy width entries) server (now (archive .entry)) (now (keys .entry)) (now (values .entry))) ⌝ }
+    ensures told { λ r. ⌜ Tells r (walkCall (layoutBy width entries) server (now (archive .entry)) (now (keys .entry)) (now (values .entry))) ⌝ }
     ensures keys { λ r. ⌜ now (keys .exit)
-        ≡ walkKeys (layoutBy width entries) standard (now (archive .entry)) (now (keys .entry)) (now (values .entry)) ⌝ }
+        ≡ walkKeys (layoutBy width entries) server (now (archive .entry)) (now (keys .entry)) (now (values .entry)) ⌝ }
     ensures values { λ r. ⌜ now (values .exit)
-        ≡ walkValues (layoutBy width entries) standard (now (archive .entry)) (now (keys .entry)) (now (values .entry)) ⌝ }
+        ≡ walkValues (layoutBy width entries) server (now (archive .entry)) (now (keys .entry)) (now (values .entry)) ⌝ }
     ensures count { λ r. ⌜ now (count .exit)
-        ≡ stored walkCount (walkCall (layoutBy width entries) standard (now (archive .entry)) (now (keys .entry)) (now (values .entry)))
+        ≡ stored walkCount (walkCall (layoutBy width entries) server (now (archive .entry)) (now (keys .entry)) (now (values .entry)))
         (now (count .entry)) ⌝ }
 {
     match fieldmap::walk(codes::layout(width, entries), archive, keys, values) {

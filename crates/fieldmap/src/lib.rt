@@ -20,7 +20,7 @@ use readers::WalkAnswer;
 ghost use mathlib.Core.Path.{_≡_};
 ghost use lib.ListN.{length};
 ghost use denote.Ref.{ptr};
-ghost use Rattle.format.specs.Layout.{layoutOf, standard};
+ghost use Rattle.format.specs.Layout.{layoutOf, server};
 ghost use Rattle.format.specs.Refusal.{checkOf, number};
 ghost use Rattle.format.specs.RelPtr.{signedOffset, storedOffset, absentOffset};
 ghost use Rattle.format.specs.Align.{alignStep};
@@ -37,14 +37,14 @@ ghost use Rattle.readers.specs.Answers.{lookupOf, walkOf, rangeOf};
 
 // The recorded count, or 24, or the first fault of 1 to 7.
 pub fn check(layout: Layout, archive: &[u8]) -> CheckAnswer
-    ensures { λ r. ⌜ checkOf r ≡ counted (checkArchive (layoutOf layout) standard (now (archive .entry))) ⌝ }
+    ensures { λ r. ⌜ checkOf r ≡ counted (checkArchive (layoutOf layout) server (now (archive .entry))) ⌝ }
 {
     validation::check::check(archive, layout)
 }
 
 // The recorded count, or 24, or the first fault of 1 to 9.
 pub fn certify(layout: Layout, archive: &[u8]) -> CheckAnswer
-    ensures { λ r. ⌜ checkOf r ≡ counted (certify (layoutOf layout) standard (now (archive .entry))) ⌝ }
+    ensures { λ r. ⌜ checkOf r ≡ counted (certify (layoutOf layout) server (now (archive .entry))) ⌝ }
 {
     readers::certify(archive, layout)
 }
@@ -52,7 +52,7 @@ pub fn certify(layout: Layout, archive: &[u8]) -> CheckAnswer
 // The entry that rkyv's search finds. On a certified archive it is the list's with that key, or there is none; on one that is only accepted the
 // search can miss an entry that the walk shows.
 pub fn lookup(layout: Layout, archive: &[u8], key: u64) -> LookupAnswer
-    ensures { λ r. ⌜ lookupOf r ≡ lookupCall (layoutOf layout) standard (now (archive .entry)) key ⌝ }
+    ensures { λ r. ⌜ lookupOf r ≡ lookupCall (layoutOf layout) server (now (archive .entry)) key ⌝ }
 {
     readers::lookup(archive, layout, key)
 }
@@ -60,17 +60,17 @@ pub fn lookup(layout: Layout, archive: &[u8], key: u64) -> LookupAnswer
 // The eight bytes of the value that a lookup finds, as a part of the archive; where it finds none or the archive is refused, the empty part at its
 // start.
 pub fn lookup_bytes<'a>(layout: Layout, archive: &'a [u8], key: u64) -> &'a [u8]
-    ensures place { λ r. ⌜ ptr r ≡ placeCall (layoutOf layout) standard (now (archive .entry)) (ptr (archive .entry)) key ⌝ }
-    ensures bytes { λ r. ⌜ now r ≡ bytesCall (layoutOf layout) standard (now (archive .entry)) key ⌝ }
+    ensures place { λ r. ⌜ ptr r ≡ placeCall (layoutOf layout) server (now (archive .entry)) (ptr (archive .entry)) key ⌝ }
+    ensures bytes { λ r. ⌜ now r ≡ bytesCall (layoutOf layout) server (now (archive .entry)) key ⌝ }
 {
     readers::lookup_bytes(archive, layout, key)
 }
 
 // Writes keys and values in the order of `visit` until the shorter list is full.
 pub fn walk(layout: Layout, archive: &[u8], keys: &mut [u64], values: &mut [u64]) -> WalkAnswer
-    ensures answer { λ r. ⌜ walkOf r ≡ walkCall (layoutOf layout) standard (now (archive .entry)) (now (keys .entry)) (now (values .entry)) ⌝ }
-    ensures keys { λ r. ⌜ now (keys .exit) ≡ walkKeys (layoutOf layout) standard (now (archive .entry)) (now (keys .entry)) (now (values .entry)) ⌝ }
-    ensures values { λ r. ⌜ now (values .exit) ≡ walkValues (layoutOf layout) standard (now (archive .entry)) (now (keys .entry)) (now (values .entry)) ⌝ }
+    ensures answer { λ r. ⌜ walkOf r ≡ walkCall (layoutOf layout) server (now (archive .entry)) (now (keys .entry)) (now (values .entry)) ⌝ }
+    ensures keys { λ r. ⌜ now (keys .exit) ≡ walkKeys (layoutOf layout) server (now (archive .entry)) (now (keys .entry)) (now (values .entry)) ⌝ }
+    ensures values { λ r. ⌜ now (values .exit) ≡ walkValues (layoutOf layout) server (now (archive .entry)) (now (keys .entry)) (now (values .entry)) ⌝ }
 {
     readers::walk(archive, layout, keys, values)
 }
@@ -85,11 +85,11 @@ pub fn range(
     values: &mut [u64],
 ) -> RangeAnswer
     ensures answer { λ r. ⌜ rangeOf r
-        ≡ rangeCall (layoutOf layout) standard (now (archive .entry)) lower upper (now (keys .entry)) (now (values .entry)) ⌝ }
+        ≡ rangeCall (layoutOf layout) server (now (archive .entry)) lower upper (now (keys .entry)) (now (values .entry)) ⌝ }
     ensures keys { λ r. ⌜ now (keys .exit)
-        ≡ rangeKeys (layoutOf layout) standard (now (archive .entry)) lower upper (now (keys .entry)) (now (values .entry)) ⌝ }
+        ≡ rangeKeys (layoutOf layout) server (now (archive .entry)) lower upper (now (keys .entry)) (now (values .entry)) ⌝ }
     ensures values { λ r. ⌜ now (values .exit)
-        ≡ rangeValues (layoutOf layout) standard (now (archive .entry)) lower upper (now (keys .entry)) (now (values .entry)) ⌝ }
+        ≡ rangeValues (layoutOf layout) server (now (archive .entry)) lower upper (now (keys .entry)) (now (values .entry)) ⌝ }
 {
     readers::range(archive, layout, lower, upper, keys, values)
 }
@@ -109,11 +109,11 @@ pub fn column(
     values: &mut [u64],
 ) -> RangeAnswer
     ensures answer { λ r. ⌜ rangeOf r
-        ≡ columnCall (layoutOf layout) standard (now (archive .entry)) packing examination eye a b (now (keys .entry)) (now (values .entry)) ⌝ }
+        ≡ columnCall (layoutOf layout) server (now (archive .entry)) packing examination eye a b (now (keys .entry)) (now (values .entry)) ⌝ }
     ensures keys { λ r. ⌜ now (keys .exit)
-        ≡ columnKeys (layoutOf layout) standard (now (archive .entry)) packing examination eye a b (now (keys .entry)) (now (values .entry)) ⌝ }
+        ≡ columnKeys (layoutOf layout) server (now (archive .entry)) packing examination eye a b (now (keys .entry)) (now (values .entry)) ⌝ }
     ensures values { λ r. ⌜ now (values .exit)
-        ≡ columnValues (layoutOf layout) standard (now (archive .entry)) packing examination eye a b (now (keys .entry)) (now (values .entry)) ⌝ }
+        ≡ columnValues (layoutOf layout) server (now (archive .entry)) packing examination eye a b (now (keys .entry)) (now (values .entry)) ⌝ }
 {
     match column_bounds(packing, examination, eye, a, b) {
         Columns::Bounds(c) => {

@@ -6,7 +6,7 @@ use mathlib.Core.Bool.{true}
 use mathlib.Core.List.{List, map}
 use lib.ListN.{length}
 use Rattle.format.specs.declared.Entry.{Entry}
-use Rattle.format.specs.Layout.{Layout, standard}
+use Rattle.format.specs.Layout.{Layout, server}
 use Rattle.format.specs.Refusal.{gives}
 use Rattle.format.specs.Check.{counted}
 use Rattle.format.specs.Entries.{list}
@@ -33,6 +33,6 @@ module _ (L : Layout) (ks vs : List ℕ) (h : ℕ) where
 -- The archive is certified with the given number of entries, N is its length, and its list has the given keys and values, entry for entry.
 pub record Certifies (L : Layout) (front ks vs : List ℕ) (n : ℕ) : Type 0 where
   pub length-is : length (archive L front (pairs ks vs)) ≡ n
-  pub certified : counted (certify L standard (archive L front (pairs ks vs))) ≡ gives (length ks)
-  pub keys : map (λ (e : Entry). e .key) (list L standard (archive L front (pairs ks vs))) ≡ ks
-  pub values : map (λ (e : Entry). e .value) (list L standard (archive L front (pairs ks vs))) ≡ vs
+  pub certified : counted (certify L server (archive L front (pairs ks vs))) ≡ gives (length ks)
+  pub keys : map (λ (e : Entry). e .key) (list L server (archive L front (pairs ks vs))) ≡ ks
+  pub values : map (λ (e : Entry). e .value) (list L server (archive L front (pairs ks vs))) ≡ vs

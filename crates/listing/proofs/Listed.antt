@@ -6,7 +6,7 @@ use native.Mathlib.Omega.{arith}
 use lib.ListN.{length, getD, length-map}
 use lib.Seq.{take-all}
 use Rattle.format.specs.declared.Entry.{Entry}
-use Rattle.format.specs.Layout.{layout32, standard}
+use Rattle.format.specs.Layout.{layout32, server}
 use Rattle.format.specs.Refusal.{Answer, gives, refuses}
 use Rattle.format.specs.Check.{Checked, accepted, refused, counted, checkArchive}
 use Rattle.format.specs.Entries.{list}
@@ -51,38 +51,38 @@ gives≢refuses w r e = let z : _≡_ {A = ℕ} 0 1 = cc in omega arith
 
 module _ (s ks vs : List ℕ) where
   -- Of refused bytes only the first line is listed.
-  pub listing-refused : (r : ℕ) → refuses r ≡ walkCall layout32 standard s ks vs → titleLine (title s) ≡ listing s
+  pub listing-refused : (r : ℕ) → refuses r ≡ walkCall layout32 server s ks vs → titleLine (title s) ≡ listing s
   unfolding listing entries entryLines
-  listing-refused r e = go (checkArchive layout32 standard s) refl
+  listing-refused r e = go (checkArchive layout32 server s) refl
     where
-      go : (a : Checked) → checkArchive layout32 standard s ≡ a → titleLine (title s) ≡ listing s
-      go (accepted n t) ea = absurd (gives≢refuses _ r (sym (walk-accepted layout32 standard s n (ap counted ea) ks vs) ∙ sym e))
+      go : (a : Checked) → checkArchive layout32 server s ≡ a → titleLine (title s) ≡ listing s
+      go (accepted n t) ea = absurd (gives≢refuses _ r (sym (walk-accepted layout32 server s n (ap counted ea) ks vs) ∙ sym e))
       go (refused q) ea = rw (ea, listing, entries) (sym (append-nil (titleLine (title s))))
 
   -- Of accepted bytes the walk's entries are listed, all of them.
   pub record Listed (w : ℕ) : Type 0 where
     pub few : w ≤ 4096
-    pub lines : titleLine (title s) ++ firstLines (walkKeys layout32 standard s ks vs) (walkValues layout32 standard s ks vs) w ≡ listing s
+    pub lines : titleLine (title s) ++ firstLines (walkKeys layout32 server s ks vs) (walkValues layout32 server s ks vs) w ≡ listing s
 
-  pub listed : (w n : ℕ) → gives (record { written = w; count = n }) ≡ walkCall layout32 standard s ks vs
+  pub listed : (w n : ℕ) → gives (record { written = w; count = n }) ≡ walkCall layout32 server s ks vs
       → length s ≤ 65536 → 4096 ≤ length ks → 4096 ≤ length vs → Listed w
   unfolding listing entries
-  listed w n e small kroom vroom = go (checkArchive layout32 standard s) refl
+  listed w n e small kroom vroom = go (checkArchive layout32 server s) refl
     where
-      go : (a : Checked) → checkArchive layout32 standard s ≡ a → Listed w
-      go (refused q) ea = absurd (gives≢refuses _ q (e ∙ walk-refuses layout32 standard s q (ap counted ea) ks vs))
+      go : (a : Checked) → checkArchive layout32 server s ≡ a → Listed w
+      go (refused q) ea = absurd (gives≢refuses _ q (e ∙ walk-refuses layout32 server s q (ap counted ea) ks vs))
       go (accepted m t) ea =
-          let few = few-entries s (archive layout32 standard s m t ea .0) small in
-          let ew : w ≡ written (list layout32 standard s) ks vs = ap wrote (e ∙ walk-accepted layout32 standard s m (ap counted ea) ks vs) in
+          let few = few-entries s (archive layout32 server s m t ea .0) small in
+          let ew : w ≡ written (list layout32 server s) ks vs = ap wrote (e ∙ walk-accepted layout32 server s m (ap counted ea) ks vs) in
           record {
             few = omega arith;
             lines =
-                rw (walk-keys-accepted layout32 standard s m (ap counted ea) ks vs, walk-values-accepted layout32 standard s m (ap counted ea) ks vs, ew)
+                rw (walk-keys-accepted layout32 server s m (ap counted ea) ks vs, walk-values-accepted layout32 server s m (ap counted ea) ks vs, ew)
                 (rw (ea, listing, entries)
-                (ap (λ (l : List ℕ). titleLine (title s) ++ l) (walked-lines (list layout32 standard s) ks vs (omega arith) (omega arith))));
+                (ap (λ (l : List ℕ). titleLine (title s) ++ l) (walked-lines (list layout32 server s) ks vs (omega arith) (omega arith))));
           }
 
   -- The text as it is put together: the first line, then the lines of the two lists as the walk leaves them.
   pub joined : {x t a b : List ℕ} {w : ℕ} → Listed w → x ≡ t ++ firstLines a b w → t ≡ titleLine (title s)
-      → a ≡ walkKeys layout32 standard s ks vs → b ≡ walkValues layout32 standard s ks vs → x ≡ listing s
+      → a ≡ walkKeys layout32 server s ks vs → b ≡ walkValues layout32 server s ks vs → x ≡ listing s
   joined k ex et ea eb = ex ∙ rw (et, ea, eb) (k .lines)

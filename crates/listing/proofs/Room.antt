@@ -5,7 +5,7 @@ use mathlib.Core.List.{List}
 use native.Mathlib.Decide.{decLt}
 use native.Mathlib.Omega.{arith}
 use lib.ListN.{length}
-use Rattle.format.specs.Layout.{layout32, standard, nested}
+use Rattle.format.specs.Layout.{layout32, server, nested}
 use Rattle.format.specs.Node.{sizeAt}
 use Rattle.format.specs.Check.{root, recorded}
 use Rattle.format.specs.Entries.{list}
@@ -36,7 +36,7 @@ module _ (s : List ℕ) where
   holds-room zero lo hi p n v = absurd v
   holds-room (suc d) lo hi p n v = node-room (Holds layout32 s d) (holds-room d) v
 
-  recorded-room : Archive layout32 standard s → 96 * recorded layout32 s ≤ 5 * length s
+  recorded-room : Archive layout32 server s → 96 * recorded layout32 s ≤ 5 * length s
   unfolding root
   recorded-room A = go (decLt 0 (recorded layout32 s))
     where
@@ -44,8 +44,8 @@ module _ (s : List ℕ) where
       go (no l) = omega arith
       go (yes l) =
           let r = A .rooted l in
-          let f = holds-room (nested standard) 0 (root layout32 s) (r .pos) (recorded layout32 s) (r .valid .holds) in
+          let f = holds-room (nested server) 0 (root layout32 s) (r .pos) (recorded layout32 s) (r .valid .holds) in
           omega (arith, f .room, f .ends)
 
-  pub few-entries : Archive layout32 standard s → length s ≤ 65536 → length (list layout32 standard s) ≤ 4096
-  few-entries A h = omega (arith, recorded-room A, list-length layout32 standard s A)
+  pub few-entries : Archive layout32 server s → length s ≤ 65536 → length (list layout32 server s) ≤ 4096
+  few-entries A h = omega (arith, recorded-room A, list-length layout32 server s A)

@@ -7,7 +7,7 @@ use native.Mathlib.Omega.{arith}
 use borrow.Author.Tests.{le-ltb, lt-ltb}
 use lib.ListN.{length, take, drop, getD, length-append, take-append-drop}
 use lib.Seq.{length-take-le}
-use Rattle.format.specs.Layout.{layout32, standard}
+use Rattle.format.specs.Layout.{layout32, server}
 use Rattle.format.specs.Refusal.{gives, refuses}
 use Rattle.format.specs.Check.{counted, checkArchive}
 use Rattle.format.specs.Certify.{certify}
@@ -40,23 +40,23 @@ line-more t ks vs i e f = e ∙ rw (f, add-one i) (append-assoc t (firstLines ks
 -- ---- the first line
 
 module _ (s : List ℕ) where
-  pub title-certified : (n : ℕ) → counted (certify layout32 standard s) ≡ gives n → title s ≡ Certified n
+  pub title-certified : (n : ℕ) → counted (certify layout32 server s) ≡ gives n → title s ≡ Certified n
   unfolding title
-  title-certified n e = let (t, a) = gives-inv (certify layout32 standard s) n e in rw (a, title)
+  title-certified n e = let (t, a) = gives-inv (certify layout32 server s) n e in rw (a, title)
 
-  pub title-open : (q n : ℕ) → counted (certify layout32 standard s) ≡ refuses q → counted (checkArchive layout32 standard s) ≡ gives n
+  pub title-open : (q n : ℕ) → counted (certify layout32 server s) ≡ refuses q → counted (checkArchive layout32 server s) ≡ gives n
       → title s ≡ Open n
   unfolding title
   title-open q n e f =
-      let a = refuses-inv (certify layout32 standard s) q e in
-      let (t, b) = gives-inv (checkArchive layout32 standard s) n f in
+      let a = refuses-inv (certify layout32 server s) q e in
+      let (t, b) = gives-inv (checkArchive layout32 server s) n f in
       rw (a, title) (rw (b, title))
 
-  pub title-refused : (r : ℕ) → counted (checkArchive layout32 standard s) ≡ refuses r → title s ≡ Refused r
+  pub title-refused : (r : ℕ) → counted (checkArchive layout32 server s) ≡ refuses r → title s ≡ Refused r
   unfolding title
   title-refused r e =
-      let a = refuses-inv (certify layout32 standard s) r (certify-refuses layout32 standard s r e) in
-      let b = refuses-inv (checkArchive layout32 standard s) r e in
+      let a = refuses-inv (certify layout32 server s) r (certify-refuses layout32 server s r e) in
+      let b = refuses-inv (checkArchive layout32 server s) r e in
       rw (a, title) (rw (b, title))
 
   -- ---- the limit

@@ -1,7 +1,7 @@
 -- Document 01's example: "For case 6 it prints", computed by the definitions. Assumes nothing.
 use mathlib.Core.Path.{_≡_, refl}
 use mathlib.Core.List.{[], _∷_}
-use Rattle.format.specs.Layout.{layout32, standard, nested}
+use Rattle.format.specs.Layout.{layout32, server, nested}
 use Rattle.format.specs.Bytes.{leAt, leBytes}
 use Rattle.format.specs.Signed.{twos, ofTwos}
 use Rattle.format.specs.RelPtr.{fitSigned, signedOffset, storedOffset, absentOffset, target, absent}
@@ -20,5 +20,5 @@ pub case-6 : printed (archive layout32 [] (pairs (7 ∷ []) (9 ∷ [])))
     ≡ 99 ∷ 101 ∷ 114 ∷ 116 ∷ 105 ∷ 102 ∷ 105 ∷ 101 ∷ 100 ∷ 32 ∷ 49 ∷ 10 ∷ 55 ∷ 32 ∷ 57 ∷ 10 ∷ []
 unfolding fitSigned signedOffset storedOffset absentOffset isAlignment alignStep decimal title entryLines entries listing printed certify
     hollow anyBody hollowAt checkBody enter checkAt checkNode root recorded checkRoot checkArchive slots listBody listAt list kind slot
-    target absent twos ofTwos leAt leBytes nested standard head leafBytes innerBytes fill logFrom height lastLevel treeOf behind archive
+    target absent twos ofTwos leAt leBytes nested server head leafBytes innerBytes fill logFrom height lastLevel treeOf behind archive
 case-6 = refl

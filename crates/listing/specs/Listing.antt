@@ -5,7 +5,7 @@ use mathlib.Core.List.{List, [], _∷_, _++_}
 use lib.Dec.{ltb}
 use lib.ListN.{length, getD}
 use Rattle.format.specs.declared.Entry.{Entry}
-use Rattle.format.specs.Layout.{layout32, standard}
+use Rattle.format.specs.Layout.{layout32, server}
 use Rattle.format.specs.Check.{accepted, refused, checkArchive}
 use Rattle.format.specs.Certify.{certify}
 use Rattle.format.specs.Entries.{list}
@@ -16,9 +16,9 @@ use Rattle.listing.specs.declared.Title.the-variants.{Certified, Open, R
 -- "First line: `certified`, or `open` if only accepted, and the count"; "A refusal prints `refused` and the number."
 unfoldable pub title : List ℕ → Title
 title s =
-    elim (certify layout32 standard s) [
+    elim (certify layout32 server s) [
       | accepted n start ↦ Certified n
-      | refused q ↦ elim (checkArchive layout32 standard s) [ accepted n start ↦ Open n | refused r ↦ Refused r ]
+      | refused q ↦ elim (checkArchive layout32 server s) [ accepted n start ↦ Open n | refused r ↦ Refused r ]
     ]
 
 -- The word in ASCII with a space after it, the number and the line's end.
@@ -42,7 +42,7 @@ firstLines ks vs (suc n) = firstLines ks vs n ++ entryLine (getD ks n 0) (getD v
 
 -- The entries of an accepted archive; a refused one has none.
 unfoldable pub entries : List ℕ → List Entry
-entries s = elim (checkArchive layout32 standard s) [ accepted n start ↦ list layout32 standard s | refused r ↦ [] ]
+entries s = elim (checkArchive layout32 server s) [ accepted n start ↦ list layout32 server s | refused r ↦ [] ]
 
 -- The text of an archive.
 unfoldable pub listing : List ℕ → List ℕ

@@ -10,7 +10,7 @@ use format::Position;
 ghost use mathlib.Core.Path.{_≡_};
 ghost use Prim.Native.Nat.{_<_, _≤_};
 ghost use lib.ListN.{length, getD};
-ghost use Rattle.format.specs.Layout.{layoutOf, standard, nested};
+ghost use Rattle.format.specs.Layout.{layoutOf, server, nested};
 ghost use Rattle.format.specs.Lookup.{lookupAt};
 ghost use Rattle.format.specs.Readable.{Node};
 ghost use Rattle.lookups.specs.Many.{many, store, allMany};
@@ -25,10 +25,10 @@ fn look_up_at(
     i: usize,
     found: usize,
 ) -> usize
-    requires { ⌜ (layout .entries ≤ 15) × Node (layoutOf layout) standard (now archive) (root .0)
+    requires { ⌜ (layout .entries ≤ 15) × Node (layoutOf layout) server (now archive) (root .0)
         × (i < length (now keys)) × (i < length (now values)) × (found ≤ i) ⌝ }
     ensures { λ r. ⌜ many (now (values .exit)) r
-        ≡ store (lookupAt (layoutOf layout) (now (archive .entry)) (getD (now (keys .entry)) i 0) (nested standard) (root .0)) i
+        ≡ store (lookupAt (layoutOf layout) (now (archive .entry)) (getD (now (keys .entry)) i 0) (nested server) (root .0)) i
         (many (now (values .entry)) found) ⌝ }
 {
     let key = keys[i];
@@ -49,9 +49,9 @@ pub fn look_up_all(
     keys: &[u64],
     values: &mut [u64],
 ) -> usize
-    requires { ⌜ (layout .entries ≤ 15) × Node (layoutOf layout) standard (now archive) (root .0) ⌝ }
+    requires { ⌜ (layout .entries ≤ 15) × Node (layoutOf layout) server (now archive) (root .0) ⌝ }
     ensures { λ r. ⌜ many (now (values .exit)) r
-        ≡ allMany (λ k. lookupAt (layoutOf layout) (now (archive .entry)) k (nested standard) (root .0)) (now (keys .entry)) (now (values .entry)) ⌝ }
+        ≡ allMany (λ k. lookupAt (layoutOf layout) (now (archive .entry)) k (nested server) (root .0)) (now (keys .entry)) (now (values .entry)) ⌝ }
 {
     let n = least(keys.len(), values.len());
     let mut found = 0;

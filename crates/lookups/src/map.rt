@@ -12,7 +12,7 @@ ghost use mathlib.Core.Path.{_≡_};
 ghost use Prim.Native.Nat.{_+_, _*_, _≤_};
 ghost use denote.Ref.{ptr};
 ghost use lib.ListN.{length};
-ghost use Rattle.format.specs.Layout.{layoutOf, standard, nested};
+ghost use Rattle.format.specs.Layout.{layoutOf, server, nested};
 ghost use Rattle.format.specs.Lookup.{lookupAt, bytesOf, placeOf};
 ghost use Rattle.format.specs.Readable.{Node};
 ghost use Rattle.lookups.specs.Seek.{seekAt};
@@ -45,8 +45,8 @@ pub(crate) fn seek_slot(archive: &[u8], pos: Position, key: u64, n: usize) -> Se
 
 // The entry with that key from the node at `pos` on, by one path down, whether or not keys ascend.
 pub fn get_key_value_raw(archive: &[u8], layout: Layout, pos: Position, key: u64) -> Found
-    requires { ⌜ (layout .entries ≤ 15) × Node (layoutOf layout) standard (now archive) (pos .0) ⌝ }
-    ensures { λ r. ⌜ r ≡ lookupAt (layoutOf layout) (now (archive .entry)) key (nested standard) (pos .0) ⌝ }
+    requires { ⌜ (layout .entries ≤ 15) × Node (layoutOf layout) server (now archive) (pos .0) ⌝ }
+    ensures { λ r. ⌜ r ≡ lookupAt (layoutOf layout) (now (archive .entry)) key (nested server) (pos .0) ⌝ }
 {
     if layout.is_common() {
         return common_get(archive, pos, key);
@@ -75,10 +75,10 @@ pub fn get_key_value_raw(archive: &[u8], layout: Layout, pos: Position, key: u64
 
 // The eight bytes of the value with that key, as a part of the archive; where there is none, the empty part at its start.
 pub fn get_bytes<'a>(archive: &'a [u8], layout: Layout, pos: Position, key: u64) -> &'a [u8]
-    requires { ⌜ (layout .entries ≤ 15) × Node (layoutOf layout) standard (now archive) (pos .0) ⌝ }
+    requires { ⌜ (layout .entries ≤ 15) × Node (layoutOf layout) server (now archive) (pos .0) ⌝ }
     ensures place { λ r. ⌜ ptr r
-        ≡ placeOf (ptr (archive .entry)) (lookupAt (layoutOf layout) (now (archive .entry)) key (nested standard) (pos .0)) ⌝ }
-    ensures bytes { λ r. ⌜ now r ≡ bytesOf (now (archive .entry)) (lookupAt (layoutOf layout) (now (archive .entry)) key (nested standard) (pos .0)) ⌝ }
+        ≡ placeOf (ptr (archive .entry)) (lookupAt (layoutOf layout) (now (archive .entry)) key (nested server) (pos .0)) ⌝ }
+    ensures bytes { λ r. ⌜ now r ≡ bytesOf (now (archive .entry)) (lookupAt (layoutOf layout) (now (archive .entry)) key (nested server) (pos .0)) ⌝ }
 {
     let Found::Entry(e) = get_key_value_raw(archive, layout, pos, key) else {
         return &archive[0..0];

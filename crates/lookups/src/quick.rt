@@ -10,14 +10,14 @@ use format::Found;
 use format::Layout;
 use format::Position;
 ghost use mathlib.Core.Path.{_≡_};
-ghost use Rattle.format.specs.Layout.{layout32, standard, nested};
+ghost use Rattle.format.specs.Layout.{layout32, server, nested};
 ghost use Rattle.format.specs.Lookup.{lookupAt};
 ghost use Rattle.format.specs.Readable.{Node};
 
 // The lookup from a node on, in the common layout: its sizes are constants here, and the loop over an inner node's keys has a known length.
 pub(crate) fn common_get(archive: &[u8], pos: Position, key: u64) -> Found
-    requires { ⌜ Node layout32 standard (now archive) (pos .0) ⌝ }
-    ensures { λ r. ⌜ r ≡ lookupAt layout32 (now (archive .entry)) key (nested standard) (pos .0) ⌝ }
+    requires { ⌜ Node layout32 server (now archive) (pos .0) ⌝ }
+    ensures { λ r. ⌜ r ≡ lookupAt layout32 (now (archive .entry)) key (nested server) (pos .0) ⌝ }
 {
     let mut current = pos;
     loop {

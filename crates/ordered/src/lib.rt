@@ -9,7 +9,7 @@ ghost use mathlib.Core.Path.{_≡_};
 ghost use mathlib.Core.Bool.{true, false};
 ghost use Prim.Native.Nat.{_+_, _*_, _≤_, _<_};
 ghost use lib.ListN.{length};
-ghost use Rattle.format.specs.Layout.{layout32, standard, pointer, keysFrom, headSize, leafSize, innerSize};
+ghost use Rattle.format.specs.Layout.{layout32, server, pointer, keysFrom, headSize, leafSize, innerSize};
 ghost use Rattle.format.specs.Refusal.{gives};
 ghost use Rattle.format.specs.Check.{counted};
 ghost use Rattle.format.specs.Certify.{certify};
@@ -85,7 +85,7 @@ fn child_keys(
     some: usize,
     last: u64,
 ) -> Passed
-    requires { ⌜ (start ≤ end) × (end ≤ field) × (field + pointer layout32 ≤ length (now archive)) × (length (now archive) ≤ standard .longest)
+    requires { ⌜ (start ≤ end) × (end ≤ field) × (field + pointer layout32 ≤ length (now archive)) × (length (now archive) ≤ server .longest)
         × (0 < depth) ⌝ }
     ensures { λ r. ⌜ ChildKeys layout32 (now (archive .entry)) depth start end field some last r ⌝ }
 {
@@ -147,7 +147,7 @@ fn node_keys(
     some: usize,
     before: u64,
 ) -> Keys
-    requires { ⌜ (start ≤ at) × (at + innerSize layout32 ≤ length (now archive)) × (length (now archive) ≤ standard .longest) ⌝ }
+    requires { ⌜ (start ≤ at) × (at + innerSize layout32 ≤ length (now archive)) × (length (now archive) ≤ server .longest) ⌝ }
     ensures { λ r. ⌜ (0 < r .entries → KeysBelow layout32 (now (archive .entry)) depth start at some before (r .entries) (r .last)) ⌝ }
 {
     let none = Keys {
@@ -183,7 +183,7 @@ fn node_keys(
 
 // The recorded count of an archive at the common layout that is certified, or 0.
 pub fn root_keys(archive: &[u8]) -> usize
-    ensures { λ r. ⌜ (0 < r → counted (certify layout32 standard (now (archive .entry))) ≡ gives r) ⌝ }
+    ensures { λ r. ⌜ (0 < r → counted (certify layout32 server (now (archive .entry))) ≡ gives r) ⌝ }
 {
     let length = archive.len();
     if length > Limits::LONGEST {

@@ -17,7 +17,7 @@ ghost use mathlib.Core.Path.{_≡_};
 ghost use mathlib.Core.Bool.{true};
 ghost use Prim.Native.Nat.{_+_, _*_, _≤_, _<_};
 ghost use lib.ListN.{length};
-ghost use Rattle.format.specs.Layout.{layoutOf, standard, keysFrom, bytes, leafSize, innerSize};
+ghost use Rattle.format.specs.Layout.{layoutOf, server, keysFrom, bytes, leafSize, innerSize};
 ghost use Rattle.format.specs.Refusal.{gives};
 ghost use Rattle.format.specs.Check.{counted};
 ghost use Rattle.format.specs.Certify.{certify};
@@ -176,7 +176,7 @@ fn node_by(
 // As `root_keys`.
 fn root_by(archive: &[u8], layout: Layout) -> usize
     requires { ⌜ (3 ≤ layout .entries) × (layout .entries ≤ 15) ⌝ }
-    ensures { λ r. ⌜ (0 < r → counted (certify (layoutOf layout) standard (now (archive .entry))) ≡ gives r) ⌝ }
+    ensures { λ r. ⌜ (0 < r → counted (certify (layoutOf layout) server (now (archive .entry))) ≡ gives r) ⌝ }
 {
     let length = archive.len();
     let record = layout.record();
@@ -217,7 +217,7 @@ fn root_by(archive: &[u8], layout: Layout) -> usize
 
 // The recorded count of an archive that is certified, or 0.
 pub fn quick_certify(archive: &[u8], layout: Layout) -> usize
-    ensures { λ r. ⌜ (0 < r → counted (certify (layoutOf layout) standard (now (archive .entry))) ≡ gives r) ⌝ }
+    ensures { λ r. ⌜ (0 < r → counted (certify (layoutOf layout) server (now (archive .entry))) ≡ gives r) ⌝ }
 {
     if layout.is_common() {
         return root_keys(archive);

@@ -6,7 +6,7 @@ use format::Layout;
 ghost use mathlib.Core.Path.{_≡_};
 ghost use Prim.Native.Nat.{ℕ, _+_, _%_, _≤_, _<_};
 ghost use lib.ListN.{length};
-ghost use Rattle.format.specs.Layout.{layout32, standard, pointer, innerSize, nodeAlign};
+ghost use Rattle.format.specs.Layout.{layout32, server, pointer, innerSize, nodeAlign};
 ghost use Rattle.quick.specs.Quick.{Passes, Below};
 
 // A child's entries, and where the range starts after it.
@@ -21,7 +21,7 @@ const WRAP: usize = 0x1_0000_0000;
 // The entries of an inner node in its place and of its children, where these are leaves right before it, in order; else 0. Most inner nodes are of this
 // kind. No call is left in it and its loop is unrolled, so that every place is the node's and a constant.
 fn quick_leaves(archive: &[u8], start: usize, at: usize) -> usize
-    requires { ⌜ (at % nodeAlign ≡ 0) × (at + innerSize layout32 ≤ length (now archive)) × (length (now archive) ≤ standard .longest) × (start ≤ at) ⌝ }
+    requires { ⌜ (at % nodeAlign ≡ 0) × (at + innerSize layout32 ≤ length (now archive)) × (length (now archive) ≤ server .longest) × (start ≤ at) ⌝ }
     ensures { λ r. ⌜ ((d : ℕ) → 0 < d → 0 < r → Below layout32 (now (archive .entry)) d start at r) ⌝ }
 {
     if at < start + Common::LEAF * Common::CHILDREN {
@@ -50,7 +50,7 @@ fn quick_leaves(archive: &[u8], start: usize, at: usize) -> usize
 // The child that a field leads to, with all below it: absent, a leaf or an inner node in its place. What the bits of an offset lack of those of -1 is the
 // distance back less one.
 fn quick_child(archive: &[u8], start: usize, end: usize, field: usize, depth: usize) -> Passed
-    requires { ⌜ (start ≤ end) × (end ≤ field) × (field + pointer layout32 ≤ length (now archive)) × (length (now archive) ≤ standard .longest)
+    requires { ⌜ (start ≤ end) × (end ≤ field) × (field + pointer layout32 ≤ length (now archive)) × (length (now archive) ≤ server .longest)
         × (0 < depth) ⌝ }
     ensures { λ r. ⌜ Passes layout32 (now (archive .entry)) depth start end field r ⌝ }
 {
@@ -91,7 +91,7 @@ fn quick_child(archive: &[u8], start: usize, end: usize, field: usize, depth: us
 
 // The entries of an inner node in its place and of all below it, where `depth` nodes may be nested; else 0.
 pub fn quick_node(archive: &[u8], start: usize, at: usize, depth: usize) -> usize
-    requires { ⌜ (at % nodeAlign ≡ 0) × (at + innerSize layout32 ≤ length (now archive)) × (length (now archive) ≤ standard .longest) × (start ≤ at) ⌝ }
+    requires { ⌜ (at % nodeAlign ≡ 0) × (at + innerSize layout32 ≤ length (now archive)) × (length (now archive) ≤ server .longest) × (start ≤ at) ⌝ }
     ensures { λ r. ⌜ (0 < r → Below layout32 (now (archive .entry)) depth start at r) ⌝ }
 {
     if depth == 0 {

@@ -11,7 +11,7 @@ use Rattle.format.specs.declared.Position.{Position}
 use Rattle.format.specs.declared.Ends.the-variants.{Keys}
 use Rattle.format.specs.declared.Child.{Child}
 use Rattle.format.specs.declared.Child.the-variants.{At}
-use Rattle.format.specs.Layout.{Layout, Limits, standard, nested}
+use Rattle.format.specs.Layout.{Layout, Limits, server, nested}
 use Rattle.format.specs.Bytes.{leAt}
 use Rattle.format.specs.Node.{child, keyAt, leafCount, slot}
 use Rattle.format.specs.Entries.{slots, listChildren, listAt}
@@ -143,9 +143,9 @@ pub none-written : (es : List Entry) (ks vs : List ℕ) → es ≡ [] → (out k
 none-written es ks vs e = rw e (sym (none-walked ks vs), refl)
 
 -- No node that the readers may read has 16 ^ 14 entries.
-pub node-fits : (least greatest : ℕ) (L : Layout) (s : List ℕ) {p : ℕ} → L .entries ≤ 15 → Node L standard s p
-    → 0 + length (select (held (Keys least greatest)) (listAt L s (nested standard) p)) < 2 ^ 64
-unfolding nested standard
+pub node-fits : (least greatest : ℕ) (L : Layout) (s : List ℕ) {p : ℕ} → L .entries ≤ 15 → Node L server s p
+    → 0 + length (select (held (Keys least greatest)) (listAt L s (nested server) p)) < 2 ^ 64
+unfolding nested server
 node-fits least greatest L s {p} l v =
     let most : suc (L .entries) ^ 14 ≤ 16 ^ 14 = pow-le-pow-left {m = 16} (omega arith) 14 in
-    omega (arith, node-few L s standard v, select-few (held (Keys least greatest)) (listAt L s (nested standard) p))
+    omega (arith, node-few L s server v, select-few (held (Keys least greatest)) (listAt L s (nested server) p))

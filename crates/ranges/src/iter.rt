@@ -8,7 +8,7 @@ use format::Position;
 ghost use mathlib.Core.Path.{_≡_};
 ghost use Prim.Native.Nat.{_≤_};
 ghost use lib.ListN.{length};
-ghost use Rattle.format.specs.Layout.{layoutOf, standard, nested};
+ghost use Rattle.format.specs.Layout.{layoutOf, server, nested};
 ghost use Rattle.format.specs.Entries.{listAt};
 ghost use Rattle.format.specs.Certify.{Ascending};
 ghost use Rattle.format.specs.Range.{matches, select};
@@ -32,13 +32,13 @@ pub fn range_with(
     values: &mut [u64],
 ) -> Ranged
     requires { ⌜ layout .entries ≤ 15 ⌝ }
-    requires { ⌜ Node (layoutOf layout) standard (now archive) (root .0) ⌝ }
-    requires { ⌜ Ascending (listAt (layoutOf layout) (now archive) (nested standard) (root .0)) ⌝ }
+    requires { ⌜ Node (layoutOf layout) server (now archive) (root .0) ⌝ }
+    requires { ⌜ Ascending (listAt (layoutOf layout) (now archive) (nested server) (root .0)) ⌝ }
     ensures { λ r. ⌜ out (now (keys .exit)) (now (values .exit)) (r .written)
-        ≡ walked (select (matches lower upper) (listAt (layoutOf layout) (now (archive .entry)) (nested standard) (root .0)))
+        ≡ walked (select (matches lower upper) (listAt (layoutOf layout) (now (archive .entry)) (nested server) (root .0)))
         (now (keys .entry)) (now (values .entry)) ⌝ }
     ensures { λ r. ⌜ r .matching
-        ≡ length (select (matches lower upper) (listAt (layoutOf layout) (now (archive .entry)) (nested standard) (root .0))) ⌝ }
+        ≡ length (select (matches lower upper) (listAt (layoutOf layout) (now (archive .entry)) (nested server) (root .0))) ⌝ }
 {
     let none = Ranged {
         written: 0,

@@ -11,7 +11,7 @@ ghost use mathlib.Core.Path.{_≡_};
 ghost use Prim.Native.Nat.{_+_, _^_, _<_, _≤_};
 ghost use lib.ListN.{length, getD};
 ghost use Rattle.format.specs.declared.Ends.the-variants.{Keys};
-ghost use Rattle.format.specs.Layout.{layoutOf, standard, nested, headSize};
+ghost use Rattle.format.specs.Layout.{layoutOf, server, nested, headSize};
 ghost use Rattle.format.specs.Bytes.{leAt};
 ghost use Rattle.format.specs.Node.{keyAt, leafCount};
 ghost use Rattle.format.specs.Entries.{slots, listAt};
@@ -84,11 +84,11 @@ fn range_inner(
     values: &mut [u64],
     start: usize,
 ) -> usize
-    requires { ⌜ (layout .entries ≤ 15) × Node (layoutOf layout) standard (now archive) (pos .0) × (getD (now archive) (pos .0) 0 ≡ 0 → ⊥) ⌝ }
-    requires { ⌜ Ascending (listAt (layoutOf layout) (now archive) (nested standard) (pos .0)) ⌝ }
-    requires { ⌜ start + length (select (held (Keys least greatest)) (listAt (layoutOf layout) (now archive) (nested standard) (pos .0))) < 2 ^ 64 ⌝ }
+    requires { ⌜ (layout .entries ≤ 15) × Node (layoutOf layout) server (now archive) (pos .0) × (getD (now archive) (pos .0) 0 ≡ 0 → ⊥) ⌝ }
+    requires { ⌜ Ascending (listAt (layoutOf layout) (now archive) (nested server) (pos .0)) ⌝ }
+    requires { ⌜ start + length (select (held (Keys least greatest)) (listAt (layoutOf layout) (now archive) (nested server) (pos .0))) < 2 ^ 64 ⌝ }
     ensures { λ r. ⌜ out (now (keys .exit)) (now (values .exit)) r
-        ≡ ranged least greatest (listAt (layoutOf layout) (now (archive .entry)) (nested standard) (pos .0))
+        ≡ ranged least greatest (listAt (layoutOf layout) (now (archive .entry)) (nested server) (pos .0))
         (out (now (keys .entry)) (now (values .entry)) start) ⌝ }
 {
     let mut at = start;
@@ -130,10 +130,10 @@ pub(crate) fn range_node(
     values: &mut [u64],
 ) -> usize
     requires { ⌜ layout .entries ≤ 15 ⌝ }
-    requires { ⌜ Node (layoutOf layout) standard (now archive) (pos .0) ⌝ }
-    requires { ⌜ Ascending (listAt (layoutOf layout) (now archive) (nested standard) (pos .0)) ⌝ }
+    requires { ⌜ Node (layoutOf layout) server (now archive) (pos .0) ⌝ }
+    requires { ⌜ Ascending (listAt (layoutOf layout) (now archive) (nested server) (pos .0)) ⌝ }
     ensures { λ r. ⌜ out (now (keys .exit)) (now (values .exit)) r
-        ≡ ranged least greatest (listAt (layoutOf layout) (now (archive .entry)) (nested standard) (pos .0))
+        ≡ ranged least greatest (listAt (layoutOf layout) (now (archive .entry)) (nested server) (pos .0))
         (out (now (keys .entry)) (now (values .entry)) 0) ⌝ }
 {
     let p = pos.0;

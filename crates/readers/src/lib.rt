@@ -13,7 +13,7 @@ ghost use mathlib.Core.Path.{_≡_};
 ghost use Prim.Native.Nat.{_-_, _≤_};
 ghost use lib.ListN.{length};
 ghost use denote.Ref.{ptr};
-ghost use Rattle.format.specs.Layout.{layoutOf, standard, recordSize};
+ghost use Rattle.format.specs.Layout.{layoutOf, server, recordSize};
 ghost use Rattle.format.specs.Refusal.{checkOf};
 ghost use Rattle.format.specs.RelPtr.{at, target};
 ghost use Rattle.format.specs.Check.{counted};
@@ -62,7 +62,7 @@ fn root_of(archive: &[u8], layout: Layout) -> Position
 
 // The check, and then what certification asks beyond it.
 fn certify_checked(archive: &[u8], layout: Layout) -> CheckAnswer
-    ensures { λ r. ⌜ checkOf r ≡ counted (certify (layoutOf layout) standard (now (archive .entry))) ⌝ }
+    ensures { λ r. ⌜ checkOf r ≡ counted (certify (layoutOf layout) server (now (archive .entry))) ⌝ }
 {
     match validation::check::check(archive, layout) {
         CheckAnswer::Refused(why) => CheckAnswer::Refused(why),
@@ -84,7 +84,7 @@ fn certify_checked(archive: &[u8], layout: Layout) -> CheckAnswer
 
 // The recorded count, or 24, or the first fault of 1 to 9. Where the quick way knows the count, nothing is left to ask.
 pub fn certify(archive: &[u8], layout: Layout) -> CheckAnswer
-    ensures { λ r. ⌜ checkOf r ≡ counted (certify (layoutOf layout) standard (now (archive .entry))) ⌝ }
+    ensures { λ r. ⌜ checkOf r ≡ counted (certify (layoutOf layout) server (now (archive .entry))) ⌝ }
 {
     let quick = quick_certify(archive, layout);
     if 0 < quick {
@@ -95,7 +95,7 @@ pub fn certify(archive: &[u8], layout: Layout) -> CheckAnswer
 
 // The entry that rkyv's search finds.
 pub fn lookup(archive: &[u8], layout: Layout, key: u64) -> LookupAnswer
-    ensures { λ r. ⌜ lookupOf r ≡ lookupCall (layoutOf layout) standard (now (archive .entry)) key ⌝ }
+    ensures { λ r. ⌜ lookupOf r ≡ lookupCall (layoutOf layout) server (now (archive .entry)) key ⌝ }
 {
     match validation::check::check(archive, layout) {
         CheckAnswer::Refused(why) => LookupAnswer::Refused(why),
@@ -114,8 +114,8 @@ pub fn lookup(archive: &[u8], layout: Layout, key: u64) -> LookupAnswer
 
 // The eight bytes of the value that a lookup finds, as a part of the archive, or the empty part at its start.
 pub fn lookup_bytes<'a>(archive: &'a [u8], layout: Layout, key: u64) -> &'a [u8]
-    ensures place { λ r. ⌜ ptr r ≡ placeCall (layoutOf layout) standard (now (archive .entry)) (ptr (archive .entry)) key ⌝ }
-    ensures bytes { λ r. ⌜ now r ≡ bytesCall (layoutOf layout) standard (now (archive .entry)) key ⌝ }
+    ensures place { λ r. ⌜ ptr r ≡ placeCall (layoutOf layout) server (now (archive .entry)) (ptr (archive .entry)) key ⌝ }
+    ensures bytes { λ r. ⌜ now r ≡ bytesCall (layoutOf layout) server (now (archive .entry)) key ⌝ }
 {
     let CheckAnswer::Accepted(count) = validation::check::check(archive, layout) else {
         return &archive[0..0];
@@ -128,11 +128,11 @@ pub fn lookup_bytes<'a>(archive: &'a [u8], layout: Layout, key: u64) -> &'a [u8]
 
 // Writes keys and values in the order of `visit` until the shorter list is full.
 pub fn walk(archive: &[u8], layout: Layout, keys: &mut [u64], values: &mut [u64]) -> WalkAnswer
-    ensures answer { λ r. ⌜ walkOf r ≡ walkCall (layoutOf layout) standard (now (archive .entry)) (now (keys .entry)) (now (values .entry)) ⌝ }
+    ensures answer { λ r. ⌜ walkOf r ≡ walkCall (layoutOf layout) server (now (archive .entry)) (now (keys .entry)) (now (values .entry)) ⌝ }
     ensures keys { λ r. ⌜ now (keys .exit)
-        ≡ walkKeys (layoutOf layout) standard (now (archive .entry)) (now (keys .entry)) (now (values .entry)) ⌝ }
+        ≡ walkKeys (layoutOf layout) server (now (archive .entry)) (now (keys .entry)) (now (values .entry)) ⌝ }
     ensures values { λ r. ⌜ now (values .exit)
-        ≡ walkValues (layoutOf layout) standard (now (archive .entry)) (now (keys .entry)) (now (values .entry)) ⌝ }
+        ≡ walkValues (layoutOf layout) server (now (archive .entry)) (now (keys .entry)) (now (values .entry)) ⌝ }
 {
     match validation::check::check(archive, layout) {
         CheckAnswer::Refused(why) => WalkAnswer::Refused(why),
@@ -149,9 +149,9 @@ pub fn walk(archive: &[u8], layout: Layout, keys: &mut [u64], values: &mut [u64]
 
 // Looks up keys after one check and stores each value that is found at the place of its key.
 pub fn look_up_many(archive: &[u8], layout: Layout, keys: &[u64], values: &mut [u64]) -> ManyAnswer
-    ensures answer { λ r. ⌜ manyOf r ≡ manyCall (layoutOf layout) standard (now (archive .entry)) (now (keys .entry)) (now (values .entry)) ⌝ }
+    ensures answer { λ r. ⌜ manyOf r ≡ manyCall (layoutOf layout) server (now (archive .entry)) (now (keys .entry)) (now (values .entry)) ⌝ }
     ensures values { λ r. ⌜ now (values .exit)
-        ≡ manyValues (layoutOf layout) standard (now (archive .entry)) (now (keys .entry)) (now (values .entry)) ⌝ }
+        ≡ manyValues (layoutOf layout) server (now (archive .entry)) (now (keys .entry)) (now (values .entry)) ⌝ }
 {
     match validation::check::check(archive, layout) {
         CheckAnswer::Refused(why) => ManyAnswer::Refused(why),
@@ -175,11 +175,11 @@ pub fn range(
     values: &mut [u64],
 ) -> RangeAnswer
     ensures answer { λ r. ⌜ rangeOf r
-        ≡ rangeCall (layoutOf layout) standard (now (archive .entry)) lower upper (now (keys .entry)) (now (values .entry)) ⌝ }
+        ≡ rangeCall (layoutOf layout) server (now (archive .entry)) lower upper (now (keys .entry)) (now (values .entry)) ⌝ }
     ensures keys { λ r. ⌜ now (keys .exit)
-        ≡ rangeKeys (layoutOf layout) standard (now (archive .entry)) lower upper (now (keys .entry)) (now (values .entry)) ⌝ }
+        ≡ rangeKeys (layoutOf layout) server (now (archive .entry)) lower upper (now (keys .entry)) (now (values .entry)) ⌝ }
     ensures values { λ r. ⌜ now (values .exit)
-        ≡ rangeValues (layoutOf layout) standard (now (archive .entry)) lower upper (now (keys .entry)) (now (values .entry)) ⌝ }
+        ≡ rangeValues (layoutOf layout) server (now (archive .entry)) lower upper (now (keys .entry)) (now (values .entry)) ⌝ }
 {
     match certify(archive, layout) {
         CheckAnswer::Refused(why) => RangeAnswer::Refused(why),

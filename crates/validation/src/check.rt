@@ -20,7 +20,7 @@ use subtrees::node::refused_ptr;
 ghost use mathlib.Core.Path.{_≡_};
 ghost use Prim.Native.Nat.{_-_, _≤_};
 ghost use lib.ListN.{length};
-ghost use Rattle.format.specs.Layout.{layoutOf, standard, recordSize};
+ghost use Rattle.format.specs.Layout.{layoutOf, server, recordSize};
 ghost use Rattle.format.specs.Refusal.{checkOf};
 ghost use Rattle.format.specs.Check.{counted, recorded, checkRoot, checkArchive};
 
@@ -34,9 +34,9 @@ fn verify(
 ) -> CheckAnswer
     requires { ⌜ (layout .entries ≤ 15) × (recordSize (layoutOf layout) ≤ length (now archive))
         × (at .0 ≡ length (now archive) - recordSize (layoutOf layout))
-        × (range .start .0 ≡ 0) × (range .end .0 ≡ at .0) × (depth ≡ standard .depth - 1) ⌝ }
+        × (range .start .0 ≡ 0) × (range .end .0 ≡ at .0) × (depth ≡ server .depth - 1) ⌝ }
     ensures { λ r. ⌜ checkOf r ≡ counted
-        (checkRoot (layoutOf layout) standard (now (archive .entry)) (recorded (layoutOf layout) (now (archive .entry)))) ⌝ }
+        (checkRoot (layoutOf layout) server (now (archive .entry)) (recorded (layoutOf layout) (now (archive .entry)))) ⌝ }
 {
     let from = at.0;
     let width = layout.width;
@@ -69,7 +69,7 @@ fn verify(
 
 // The recorded count, or 24, or the first refusal of 1 to 7.
 pub fn check(archive: &[u8], layout: Layout) -> CheckAnswer
-    ensures { λ r. ⌜ checkOf r ≡ counted (checkArchive (layoutOf layout) standard (now (archive .entry))) ⌝ }
+    ensures { λ r. ⌜ checkOf r ≡ counted (checkArchive (layoutOf layout) server (now (archive .entry))) ⌝ }
 {
     if !layout.in_range() {
         return CheckAnswer::Refused(Refusal::EntriesOutOfRange);

@@ -11,7 +11,7 @@ use format::Position;
 ghost use mathlib.Core.Path.{_≡_};
 ghost use Prim.Native.Nat.{_≤_};
 ghost use lib.ListN.{getD};
-ghost use Rattle.format.specs.Layout.{layoutOf, standard, nested};
+ghost use Rattle.format.specs.Layout.{layoutOf, server, nested};
 ghost use Rattle.format.specs.Node.{leafCount};
 ghost use Rattle.format.specs.Entries.{slots, listAt};
 ghost use Rattle.format.specs.Readable.{Node, LeafNode};
@@ -58,9 +58,9 @@ fn visit_raw(
     values: &mut [u64],
     start: usize,
 ) -> usize
-    requires { ⌜ (layout .entries ≤ 15) × Node (layoutOf layout) standard (now archive) (pos .0) × (getD (now archive) (pos .0) 0 ≡ 0 → ⊥) ⌝ }
+    requires { ⌜ (layout .entries ≤ 15) × Node (layoutOf layout) server (now archive) (pos .0) × (getD (now archive) (pos .0) 0 ≡ 0 → ⊥) ⌝ }
     ensures { λ r. ⌜ out (now (keys .exit)) (now (values .exit)) r
-        ≡ fill (listAt (layoutOf layout) (now (archive .entry)) (nested standard) (pos .0)) (out (now (keys .entry)) (now (values .entry)) start) ⌝ }
+        ≡ fill (listAt (layoutOf layout) (now (archive .entry)) (nested server) (pos .0)) (out (now (keys .entry)) (now (values .entry)) start) ⌝ }
 {
     if keys.len() <= start || values.len() <= start {
         return start;
@@ -92,9 +92,9 @@ pub fn visit(
     keys: &mut [u64],
     values: &mut [u64],
 ) -> usize
-    requires { ⌜ (layout .entries ≤ 15) × Node (layoutOf layout) standard (now archive) (root .0) ⌝ }
+    requires { ⌜ (layout .entries ≤ 15) × Node (layoutOf layout) server (now archive) (root .0) ⌝ }
     ensures { λ r. ⌜ out (now (keys .exit)) (now (values .exit)) r
-        ≡ walked (listAt (layoutOf layout) (now (archive .entry)) (nested standard) (root .0)) (now (keys .entry)) (now (values .entry)) ⌝ }
+        ≡ walked (listAt (layoutOf layout) (now (archive .entry)) (nested server) (root .0)) (now (keys .entry)) (now (values .entry)) ⌝ }
 {
     let p = root.0;
     if archive[p] == 0 {

@@ -7,7 +7,7 @@ use mathlib.Core.Bool.{Bool, false}
 use mathlib.Core.Logic.{⊎-elim, ⊎-map}
 use native.Mathlib.Omega.{arith}
 use lib.ListN.{length}
-use Rattle.format.specs.Layout.{Layout, layoutOf, leafSize, standard, nested}
+use Rattle.format.specs.Layout.{Layout, layoutOf, leafSize, server, nested}
 use Rattle.format.specs.Node.{child}
 use Rattle.format.specs.Entries.{listChildren, listAt}
 use Rattle.format.specs.Certify.{anyChildren, hollowAt}
@@ -59,8 +59,8 @@ node-below t = and 1 node-kinds.ps (falls 1 node-kinds.ps _<_ μ-node t) certify
 abbrev Inv-loop : inner-lts.InvT-loop
 Inv-loop archive layout pos some last ascends known hollow₀ order₀ i₀ hollow order i =
     let L = layoutOf layout in
-    let list = left [] (listChildren L archive (listAt L archive (nested standard)) (pos .0)) (layout .entries) in
-    let any = left false (anyChildren L archive (hollowAt L archive (nested standard)) (pos .0)) (layout .entries) in
+    let list = left [] (listChildren L archive (listAt L archive (nested server)) (pos .0)) (layout .entries) in
+    let any = left false (anyChildren L archive (hollowAt L archive (nested server)) (pos .0)) (layout .entries) in
     (i ≤ layout .entries + 1) × (pos .0 + leafSize L ≤ length archive) × (runs step (list i) order ≡ runs step (list i₀) order₀)
     × (raised hollow (any i) ≡ raised hollow₀ (any i₀))
 
@@ -91,8 +91,8 @@ module _ (t : ℕ) (c : In-inner t inner-lts.At-match-came) where
 
   joined : let a = start t head .args in
       let next = childAt (L t head) (a .archive .now) (child (L t head) (a .pos .0) (head .loop .i)) in
-      (c .match .order ≡ runs step (onChild [] (listAt (L t head) (a .archive .now) (nested standard)) next) (head .loop .order))
-      × (c .match .hollow ≡ raised (head .loop .hollow) (onChild false (hollowAt (L t head) (a .archive .now) (nested standard)) next))
+      (c .match .order ≡ runs step (onChild [] (listAt (L t head) (a .archive .now) (nested server)) next) (head .loop .order))
+      × (c .match .hollow ≡ raised (head .loop .hollow) (onChild false (hollowAt (L t head) (a .archive .now) (nested server)) next))
   joined = (
     next-child (L t head) _ (runs step) [] (runs-none step) _ _ _ _ _ _ (c .before .child-at .ensures)
         (⊎-map (λ w. (_, w .1 .given .1, w .6 ∙ w .3 .ensures .0)) (λ w. (w .1 .given .1, w .3)) (c .match .came)),
@@ -106,7 +106,7 @@ inner-certify-node-requires t c κs =
     let read : In-inner t inner-lts.After-child-at = search in
     let head : In-inner t inner-lts.At-loop = search in
     let falls =
-    child-falls (L t head) standard _ _ refl (start t head .pre .1 .1) (start t head .pre .1 .2) (omega arith) (read .child-at .ensures) (there .q .given .1) in
+    child-falls (L t head) server _ _ refl (start t head .pre .1 .1) (start t head .pre .1 .2) (omega arith) (read .child-at .ensures) (there .q .given .1) in
     (omega (arith, falls .0), (start t head .pre .1 .0, falls .1))
 
 -- Where the arms of the slot's test have met: one slot more, or none is left.

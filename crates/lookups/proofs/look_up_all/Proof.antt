@@ -3,7 +3,7 @@ use mathlib.Core.Path.{_≡_}
 use Prim.Native.Nat.{_-_, _≤_}
 use lib.ListN.{length}
 use borrow.Author.Needs.{needs}
-use Rattle.format.specs.Layout.{layoutOf, standard, nested}
+use Rattle.format.specs.Layout.{layoutOf, server, nested}
 use Rattle.format.specs.Lookup.{lookupAt}
 use Rattle.lookups.specs.Many.{many, firstMany}
 use Rattle.lookups.proofs.ManyLookups.{first-none, first-more, first-all, found-most}
@@ -13,7 +13,7 @@ use Rattle.lookups.proofs.look_up_all.Tie as tie
 abbrev Inv-loop : tie.InvT-loop
 Inv-loop archive layout root keys values₀ n found₀ i₀ values found i =
     (i ≤ n) × (length values ≡ length values₀)
-    × (many values found ≡ firstMany (λ k. lookupAt (layoutOf layout) archive k (nested standard) (root .0)) keys values₀ i)
+    × (many values found ≡ firstMany (λ k. lookupAt (layoutOf layout) archive k (nested server) (root .0)) keys values₀ i)
 
 abbrev μ-loop : tie.MeasureT-loop
 μ-loop archive layout root keys values₀ n found₀ i₀ values found i = n - i

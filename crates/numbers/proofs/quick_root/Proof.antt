@@ -3,7 +3,7 @@ use mathlib.Core.Path.{_≡_, refl, sym, ap, subst, _∙_}
 use Prim.Native.Nat.{ℕ, _-_}
 use native.Mathlib.Omega.{arith}
 use borrow.Author.Needs.{needs}
-use Rattle.format.specs.Layout.{Layout, layoutOf, widthOf, standard, innerSize}
+use Rattle.format.specs.Layout.{Layout, layoutOf, widthOf, server, innerSize}
 use Rattle.quick.specs.Quick.{Below, Root}
 use Rattle.numbers.specs.Numbers.{numbered, Numbers, InnerBack}
 use Rattle.quick.proofs.Passing.{root-passes}
@@ -30,7 +30,7 @@ module _ (c : tie.Else2) where
   passes w = root-passes L _ _ _ (root .to) (root .aligned) (root .inner) refl (root .room) (omega arith) w
 
 quick-node-requires : tie.Need-quick-node-requires
-unfolding standard
+unfolding server
 quick-node-requires c κs =
     let asked : tie.After-is-common = search in
     let short : tie.Else1 = search in

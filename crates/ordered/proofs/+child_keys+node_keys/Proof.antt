@@ -5,7 +5,7 @@ use native.Mathlib.Omega.{arith}
 use borrow.Author.Needs.{needs}
 use borrow.Fn.Kinds.{In, Out}
 use borrow.Fn.PlainCycle.{Measures, is, falls, and}
-use Rattle.format.specs.Layout.{layout32, standard}
+use Rattle.format.specs.Layout.{layout32, server}
 use Rattle.format.specs.Readable.{LeadsTo}
 use Rattle.quick.proofs.Passing.{leads32}
 use Rattle.ordered.proofs.Order.{absent-keys, leaf-answer, inner-keys, KeysSoFar, no-keys, more-keys, first-there, below-keys}
@@ -67,7 +67,7 @@ module _ (t : ℕ) (c : In-child t child-lts.Else3) where
   at = entry .args .field + read .u32-at .result - 0x1_0000_0000
 
   to : LeadsTo layout32 (entry .args .archive .now) (entry .args .field) at
-  unfolding standard
+  unfolding server
   to = let small = read .u32-at .ok in leads32 _ _ _ (read .u32-at .ensures) (omega arith) (omega arith) (omega arith)
 
 child-returns-6 : (t : ℕ) → In-child t child-lts.Need-returns-6
@@ -144,7 +144,7 @@ node-returns-5 t c =
     (first-there layout32 _ _ _ (there .before .u32-at .ensures) (there .if2 .left))
 
 pub +child-keys+node-keys-spec : {M : Type 1} → statement M
-unfolding standard
+unfolding server
 +child-keys+node-keys-spec = close μ-child μ-node (λ t. child-lts.spec (child-calls t) (child-at t) child.Post
     (λ c κs. search needs)
     (λ c. search needs)

@@ -2,7 +2,7 @@
 use mathlib.Core.Path.{_≡_, sym, subst, _∙_}
 use native.Mathlib.Omega.{arith}
 use borrow.Author.Needs.{needs}
-use Rattle.format.specs.Layout.{Layout, layoutOf, standard}
+use Rattle.format.specs.Layout.{Layout, layoutOf, server}
 use Rattle.format.specs.Refusal.{gives}
 use Rattle.format.specs.Check.{counted}
 use Rattle.format.specs.Certify.{certify}
@@ -14,7 +14,7 @@ returns : tie.Need-returns
 returns c =
     let start : tie.Start = search in
     let asked : tie.After-is-common = search in
-    λ h. subst (λ (L : Layout). counted (certify L standard (start .args .archive .now)) ≡ gives (c .root-keys .result))
+    λ h. subst (λ (L : Layout). counted (certify L server (start .args .archive .now)) ≡ gives (c .root-keys .result))
     (sym (asked .is-common .ensures (c .before .if1 .taken))) (c .root-keys .ensures h)
 
 root-by-requires : tie.Need-root-by-requires

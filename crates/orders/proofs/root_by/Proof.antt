@@ -6,7 +6,7 @@ use Prim.Native.Nat.{ℕ, _-_, _%_, _≤_}
 use native.Mathlib.Omega.{arith}
 use lib.ListN.{length}
 use borrow.Author.Needs.{needs}
-use Rattle.format.specs.Layout.{Layout, layoutOf, entriesInRange, widthOf, standard, nested, pointer, innerSize, recordSize, recordAlign}
+use Rattle.format.specs.Layout.{Layout, layoutOf, entriesInRange, widthOf, server, nested, pointer, innerSize, recordSize, recordAlign}
 use Rattle.format.specs.Bytes.{leAt}
 use Rattle.format.specs.Check.{root, recorded}
 use Rattle.format.specs.Laws.Numbers.Widths.{in-range}
@@ -53,8 +53,8 @@ module _ (c : tie.Else4) where
   range : entriesInRange L ≡ true
   range = let least : 3 ≤ entry .args .layout .entries = search in in-range L least (search)
 
-  short : length s ≤ standard .longest
-  unfolding standard
+  short : length s ≤ server .longest
+  unfolding server
   short = let small : tie.Else1 = search in omega (arith, small .if1 .left)
 
   room : recordSize L ≤ length s
@@ -84,21 +84,21 @@ node-by-requires c κs =
     (numbers all, omega arith, omega (arith, ap innerSize (same all), inner (there all) .room, place (there all)))
 
 returns-6 : tie.Need-returns-6
-unfolding standard nested recorded
+unfolding server nested recorded
 returns-6 c =
     let all : tie.After-ones = search in
     let asked : tie.After-node-by = search in
     let count : tie.After-uint-at = search in
     let last = asked .node-by .result .last in
     let here = there all in
-    λ h. certified-below (L here) (s here) standard
+    λ h. certified-below (L here) (s here) server
     (sym (count .uint-at .ensures .0 ∙ ap (leAt (pointer (L here)) (s here)) (omega (arith, place here, wide here .pointer .ensures .0)))) h
     (inner here .to) (range here) (short here) (room here) (even here) (omega arith) (inner here .aligned) (inner here .inner) refl (inner here .room)
     (subst (λ (M : Layout). KeysBelow M (s here) 13 0 (p here) 0 0 (count .uint-at .result) last) (same all)
     (subst (λ (m : ℕ). KeysBelow (by-numbers all) (s here) 13 0 (p here) 0 0 m last) (c .if5 .left) (asked .node-by .ensures (omega arith))))
 
 pub root-by-spec : {M : Type 1} → statement M
-unfolding standard
+unfolding server
 root-by-spec =
     tie.close
     (tie.spec

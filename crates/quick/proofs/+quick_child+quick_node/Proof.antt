@@ -5,7 +5,7 @@ use native.Mathlib.Omega.{arith}
 use borrow.Author.Needs.{needs}
 use borrow.Fn.Kinds.{In, Out}
 use borrow.Fn.PlainCycle.{Measures, is, falls, and}
-use Rattle.format.specs.Layout.{layout32, standard}
+use Rattle.format.specs.Layout.{layout32, server}
 use Rattle.format.specs.Readable.{LeadsTo}
 use Rattle.quick.proofs.Passing.{leads32, absent-child, leaf-child, inner-child, SoFar, none-passed, one-passed, all-passed}
 use Rattle.quick.proofs.quick_child.Reads as child
@@ -70,7 +70,7 @@ module _ (t : ℕ) (c : In-child t child-lts.Else3) where
       (omega (arith, small, room .if2 .left), omega (arith, small, room .if2 .left))
 
   to : LeadsTo layout32 (asked .args .archive .now) (asked .args .field) p
-  unfolding standard
+  unfolding server
   to = let small = read .u32-at .ok in leads32 _ _ _ (read .u32-at .ensures) (omega (arith, small)) (omega (arith, asked .pre)) (back .0)
 
 child-returns-6 : (t : ℕ) → In-child t child-lts.Need-returns-6
@@ -140,7 +140,7 @@ node-returns-4 : (t : ℕ) → In-node t node-lts.Need-returns-4
 node-returns-4 t c = λ h. all-passed layout32 _ _ _ _ (c .before .loop .inv .3) (omega arith)
 
 pub +quick-child+quick-node-spec : {M : Type 1} → statement M
-unfolding standard
+unfolding server
 +quick-child+quick-node-spec = close μ-child μ-node (λ t. child-lts.spec (child-calls t) (child-at t) child.Post
     (λ c κs. search needs)
     (child-returns t)

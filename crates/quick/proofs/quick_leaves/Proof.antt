@@ -4,7 +4,7 @@ use Prim.Native.Nat.{ℕ, _+_, _-_, _*_, _%_, _<_, _≤_}
 use native.Mathlib.Omega.{arith}
 use lib.ListN.{length}
 use borrow.Author.Needs.{needs}
-use Rattle.format.specs.Layout.{layout32, standard}
+use Rattle.format.specs.Layout.{layout32, server}
 use Rattle.format.specs.Node.{child}
 use Rattle.format.specs.Readable.{LeadsTo}
 use Rattle.format.specs.NodeRelation.{ChildOk, Holds}
@@ -27,7 +27,7 @@ module _ (c : tie.In-loop Inv-loop μ-loop) where
 
   room : (c .before .loop .i < 6) × (576 ≤ begun .args .at) × (begun .args .at + 112 ≤ length (begun .args .archive .now))
       × (length (begun .args .archive .now) ≤ 0x10_0000) × (begun .args .at % 8 ≡ 0)
-  unfolding standard
+  unfolding server
   room =
       let before : tie.Else1 Inv-loop μ-loop = search in
       (omega (arith, c .loop-test .taken), omega (arith, before .if1 .left), begun .pre .1, begun .pre .2, begun .pre .0)
@@ -81,7 +81,7 @@ returns-5 : tie.Need-returns-5 Inv-loop μ-loop
 returns-5 c = λ d some h. all-passed layout32 _ _ _ _ (c .before .loop .inv .3 d some) (omega arith)
 
 pub quick-leaves-spec : {M : Type 1} → statement M
-unfolding standard
+unfolding server
 quick-leaves-spec =
     tie.close
     (tie.spec

@@ -1,7 +1,7 @@
 -- `readers::look_up_many` meets its contract. Assumes nothing.
 use mathlib.Core.Path.{sym}
 use borrow.Author.Needs.{needs}
-use Rattle.format.specs.Layout.{standard}
+use Rattle.format.specs.Layout.{server}
 use Rattle.format.specs.Laws.Calls.Accepted.{entries-few, node}
 use Rattle.lookups.proofs.ManyLookups.{many-refuses, many-values-refuses, many-none, many-values-none, many-gives, many-values-gives}
 use Rattle.readers.proofs.Told.{accepted-told, refused-told, root-requires}
@@ -12,7 +12,7 @@ returns : tie.Need-returns
 returns c =
     let told : tie.After-count = search in
     let accepted = accepted-told (told .count .given .1) (told .before .before .check .ensures) in
-    (sym (many-none _ standard _ _ accepted _ _ (search)), sym (many-values-none _ standard _ _ accepted _ _ (search)))
+    (sym (many-none _ server _ _ accepted _ _ (search)), sym (many-values-none _ server _ _ accepted _ _ (search)))
 
 root-of-requires : tie.Need-root-of-requires
 root-of-requires c κs = root-requires _ _ _ (accepted-told (c .before .before .count .given .1) (search)) (search)
@@ -21,13 +21,13 @@ look-up-all-requires : tie.Need-look-up-all-requires
 look-up-all-requires c κs =
     let told : tie.After-count = search in
     let accepted = accepted-told (told .count .given .1) (told .before .before .check .ensures) in
-    (entries-few _ standard _ _ accepted, node _ standard _ _ accepted (search) _ (c .before .root-of .ensures))
+    (entries-few _ server _ _ accepted, node _ server _ _ accepted (search) _ (c .before .root-of .ensures))
 
 returns-2 : tie.Need-returns-2
 returns-2 c =
     let told : tie.After-why = search in
     let refused = refused-told (told .why .given .1) (told .before .before .check .ensures) in
-    (sym (many-refuses _ standard _ _ refused _ _), sym (many-values-refuses _ standard _ _ refused _ _))
+    (sym (many-refuses _ server _ _ refused _ _), sym (many-values-refuses _ server _ _ refused _ _))
 
 returns-3 : tie.Need-returns-3
 returns-3 c =
@@ -37,8 +37,8 @@ returns-3 c =
     let accepted = accepted-told (told .count .given .1) (told .before .before .check .ensures) in
     let leads = root .root-of .ensures in
     let looked = call .look-up-all .ensures in (
-      sym (many-gives _ standard _ _ accepted _ _ (search) _ leads _ _ looked),
-      sym (many-values-gives _ standard _ _ accepted _ _ (search) _ leads _ _ looked),
+      sym (many-gives _ server _ _ accepted _ _ (search) _ leads _ _ looked),
+      sym (many-values-gives _ server _ _ accepted _ _ (search) _ leads _ _ looked),
     )
 
 pub look-up-many-spec : {M : Type 1} → statement M

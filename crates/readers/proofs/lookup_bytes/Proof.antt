@@ -1,7 +1,7 @@
 -- `readers::lookup_bytes` meets its contract. Assumes nothing.
 use mathlib.Core.Path.{refl, sym, _∙_}
 use native.Mathlib.Omega.{arith}
-use Rattle.format.specs.Layout.{standard}
+use Rattle.format.specs.Layout.{server}
 use Rattle.format.specs.Laws.Calls.Accepted.{entries-few, node, bytes-refuses, bytes-none, bytes-gives, place-refuses, place-none, place-gives}
 use Rattle.lookups.proofs.Finds.{same-place}
 use borrow.Author.Needs.{needs}
@@ -13,14 +13,14 @@ returns : tie.Need-returns
 returns c =
     let told : tie.After-enum-told = search in
     let refused = refused-told (told .enum-told .given .1) (told .before .before .check .ensures) in
-    (same-place refl (omega arith) ∙ sym (place-refuses _ standard _ _ refused _ _), sym (bytes-refuses _ standard _ _ refused _))
+    (same-place refl (omega arith) ∙ sym (place-refuses _ server _ _ refused _ _), sym (bytes-refuses _ server _ _ refused _))
 
 returns-2 : tie.Need-returns-2
 returns-2 c =
     let told : tie.After-count = search in
     let accepted = accepted-told (told .count .given .1) (told .before .before .check .ensures) in (
-      same-place refl (omega arith) ∙ sym (place-none _ standard _ _ accepted (search) _ _),
-      sym (bytes-none _ standard _ _ accepted (search) _),
+      same-place refl (omega arith) ∙ sym (place-none _ server _ _ accepted (search) _ _),
+      sym (bytes-none _ server _ _ accepted (search) _),
     )
 
 root-of-requires : tie.Need-root-of-requires
@@ -30,7 +30,7 @@ get-bytes-requires : tie.Need-get-bytes-requires
 get-bytes-requires c κs =
     let told : tie.After-count = search in
     let accepted = accepted-told (told .count .given .1) (told .before .before .check .ensures) in
-    (entries-few _ standard _ _ accepted, node _ standard _ _ accepted (search) _ (c .root-of .ensures))
+    (entries-few _ server _ _ accepted, node _ server _ _ accepted (search) _ (c .root-of .ensures))
 
 returns-3 : tie.Need-returns-3
 returns-3 c =
@@ -38,8 +38,8 @@ returns-3 c =
     let accepted = accepted-told (told .count .given .1) (told .before .before .check .ensures) in
     let leads = c .before .root-of .ensures in
     let (place, bytes) = c .get-bytes .ensures in (
-      place ∙ sym (place-gives _ standard _ _ accepted (search) _ leads _ _),
-      bytes ∙ sym (bytes-gives _ standard _ _ accepted (search) _ leads _),
+      place ∙ sym (place-gives _ server _ _ accepted (search) _ leads _ _),
+      bytes ∙ sym (bytes-gives _ server _ _ accepted (search) _ leads _),
     )
 
 pub lookup-bytes-spec : {M : Type 1} → statement M

@@ -1,6 +1,6 @@
 -- `readers::walk` meets its contract. Assumes nothing.
 use mathlib.Core.Path.{sym}
-use Rattle.format.specs.Layout.{standard}
+use Rattle.format.specs.Layout.{server}
 use Rattle.format.specs.Laws.Calls.Accepted.{entries-few, node, walk-refuses, walk-keys-refuses, walk-values-refuses}
 use Rattle.format.specs.Laws.Calls.Accepted.{walk-none, walk-keys-none, walk-values-none, walk-gives, walk-keys-gives, walk-values-gives}
 use borrow.Author.Needs.{needs}
@@ -12,8 +12,8 @@ returns : tie.Need-returns
 returns c =
     let told : tie.After-count = search in
     let accepted = accepted-told (told .count .given .1) (told .before .before .check .ensures) in (
-      sym (walk-none _ standard _ _ accepted (search) _ _),
-      (sym (walk-keys-none _ standard _ _ accepted (search) _ _), sym (walk-values-none _ standard _ _ accepted (search) _ _)),
+      sym (walk-none _ server _ _ accepted (search) _ _),
+      (sym (walk-keys-none _ server _ _ accepted (search) _ _), sym (walk-values-none _ server _ _ accepted (search) _ _)),
     )
 
 root-of-requires : tie.Need-root-of-requires
@@ -24,14 +24,14 @@ visit-requires c κs =
     let told : tie.After-count = search in
     let root : tie.After-root-of = search in
     let accepted = accepted-told (told .count .given .1) (told .before .before .check .ensures) in
-    (entries-few _ standard _ _ accepted, node _ standard _ _ accepted (search) _ (root .root-of .ensures))
+    (entries-few _ server _ _ accepted, node _ server _ _ accepted (search) _ (root .root-of .ensures))
 
 returns-2 : tie.Need-returns-2
 returns-2 c =
     let told : tie.After-why = search in
     let refused = refused-told (told .why .given .1) (told .before .before .check .ensures) in (
-      sym (walk-refuses _ standard _ _ refused _ _),
-      (sym (walk-keys-refuses _ standard _ _ refused _ _), sym (walk-values-refuses _ standard _ _ refused _ _)),
+      sym (walk-refuses _ server _ _ refused _ _),
+      (sym (walk-keys-refuses _ server _ _ refused _ _), sym (walk-values-refuses _ server _ _ refused _ _)),
     )
 
 returns-3 : tie.Need-returns-3
@@ -42,10 +42,10 @@ returns-3 c =
     let accepted = accepted-told (told .count .given .1) (told .before .before .check .ensures) in
     let leads = root .root-of .ensures in
     let written = visited .visit .ensures in (
-      sym (walk-gives _ standard _ _ accepted (search) _ leads _ _ _ _ _ written),
+      sym (walk-gives _ server _ _ accepted (search) _ leads _ _ _ _ _ written),
       (
-        sym (walk-keys-gives _ standard _ _ accepted (search) _ leads _ _ _ _ _ written),
-        sym (walk-values-gives _ standard _ _ accepted (search) _ leads _ _ _ _ _ written),
+        sym (walk-keys-gives _ server _ _ accepted (search) _ leads _ _ _ _ _ written),
+        sym (walk-values-gives _ server _ _ accepted (search) _ leads _ _ _ _ _ written),
       ),
     )
 

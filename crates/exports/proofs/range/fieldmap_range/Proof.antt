@@ -2,7 +2,7 @@
 use mathlib.Core.Path.{_∙_, sym, ap}
 use native.Mathlib.Omega.{arith}
 use borrow.Author.Needs.{needs}
-use Rattle.format.specs.Layout.{standard}
+use Rattle.format.specs.Layout.{server}
 use Rattle.exports.proofs.Numbers.{range-most}
 use Rattle.readers.specs.Answers.{rangeOf}
 use Rattle.codes.specs.Answers.{rangeWritten, rangeMatching}
@@ -11,12 +11,12 @@ use Rattle.exports.proofs.range.fieldmap_range.Statement.{statement}
 use Rattle.exports.proofs.range.fieldmap_range.Tie as tie
 
 given-requires : tie.Need-given-requires
-unfolding standard
+unfolding server
 given-requires c κs =
     let call : tie.After-range = search in
     let told : tie.After-written = search in
     let e = sym (call .range .ensures .0) ∙ ap rangeOf (told .written .given .1) in
-    omega (arith, range-most _ standard _ _ _ _ _ _ e)
+    omega (arith, range-most _ server _ _ _ _ _ _ e)
 
 returns : tie.Need-returns
 returns c =

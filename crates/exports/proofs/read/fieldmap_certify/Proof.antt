@@ -3,7 +3,7 @@ use Prim.Native.Nat.{ℕ}
 use mathlib.Core.Path.{_∙_, sym, ap}
 use native.Mathlib.Omega.{arith}
 use borrow.Author.Needs.{needs}
-use Rattle.format.specs.Layout.{standard}
+use Rattle.format.specs.Layout.{server}
 use Rattle.exports.proofs.Numbers.{count-most}
 use Rattle.format.specs.Laws.Calls.Certified.{certified-accepts}
 use Rattle.codes.specs.Answers.{coded}
@@ -12,10 +12,10 @@ use Rattle.exports.proofs.read.fieldmap_certify.Statement.{statement}
 use Rattle.exports.proofs.read.fieldmap_certify.Tie as tie
 
 counted-requires : tie.Need-counted-requires
-unfolding standard
+unfolding server
 counted-requires c κs = λ n e.
-    let accepted = certified-accepts _ standard _ n (sym (c .certify .ensures) ∙ e) in
-    omega (arith, count-most _ standard _ n accepted)
+    let accepted = certified-accepts _ server _ n (sym (c .certify .ensures) ∙ e) in
+    omega (arith, count-most _ server _ n accepted)
 
 returns : tie.Need-returns
 returns c =

@@ -3,7 +3,7 @@ use Prim.Native.Nat.{ℕ}
 use mathlib.Core.Path.{_∙_, sym, ap}
 use native.Mathlib.Omega.{arith}
 use borrow.Author.Needs.{needs}
-use Rattle.format.specs.Layout.{standard}
+use Rattle.format.specs.Layout.{server}
 use Rattle.exports.proofs.Numbers.{count-most}
 use Rattle.codes.specs.Answers.{coded}
 use Rattle.codes.proofs.Coded.{told-counted, returned}
@@ -11,9 +11,9 @@ use Rattle.exports.proofs.read.fieldmap_check.Statement.{statement}
 use Rattle.exports.proofs.read.fieldmap_check.Tie as tie
 
 counted-requires : tie.Need-counted-requires
-unfolding standard
+unfolding server
 counted-requires c κs = λ n e.
-    omega (arith, count-most _ standard _ n (sym (c .check .ensures) ∙ e))
+    omega (arith, count-most _ server _ n (sym (c .check .ensures) ∙ e))
 
 returns : tie.Need-returns
 returns c =

@@ -2,7 +2,7 @@
 use mathlib.Core.Path.{_∙_, sym, ap}
 use native.Mathlib.Omega.{arith}
 use borrow.Author.Needs.{needs}
-use Rattle.format.specs.Layout.{standard}
+use Rattle.format.specs.Layout.{server}
 use Rattle.exports.proofs.Numbers.{walk-most}
 use Rattle.readers.specs.Answers.{walkOf}
 use Rattle.codes.specs.Answers.{walkWritten, walkCount}
@@ -11,12 +11,12 @@ use Rattle.exports.proofs.read.fieldmap_walk.Statement.{statement}
 use Rattle.exports.proofs.read.fieldmap_walk.Tie as tie
 
 given-requires : tie.Need-given-requires
-unfolding standard
+unfolding server
 given-requires c κs =
     let call : tie.After-walk = search in
     let told : tie.After-written = search in
     let e = sym (call .walk .ensures .0) ∙ ap walkOf (told .written .given .1) in
-    omega (arith, walk-most _ standard _ _ _ _ e)
+    omega (arith, walk-most _ server _ _ _ _ e)
 
 returns : tie.Need-returns
 returns c =

@@ -3,7 +3,7 @@ use Prim.Native.Nat.{ℕ}
 use mathlib.Core.Path.{_∙_, sym, ap}
 use native.Mathlib.Omega.{arith}
 use borrow.Author.Needs.{needs}
-use Rattle.format.specs.Layout.{standard}
+use Rattle.format.specs.Layout.{server}
 use Rattle.format.specs.Laws.Build.Lengths.{build-most}
 use Rattle.builder.specs.Answers.{builtOf}
 use Rattle.codes.proofs.Coded.{answers-given, answers-refused, returned}
@@ -11,7 +11,7 @@ use Rattle.exports.proofs.write.fieldmap_build.Statement.{statement}
 use Rattle.exports.proofs.write.fieldmap_build.Tie as tie
 
 given-requires : tie.Need-given-requires
-unfolding standard
+unfolding server
 given-requires c κs =
     let call : tie.After-build = search in
     let told : tie.After-end = search in

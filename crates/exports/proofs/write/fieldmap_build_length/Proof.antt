@@ -3,7 +3,7 @@ use Prim.Native.Nat.{ℕ}
 use mathlib.Core.Path.{_∙_, sym, ap}
 use native.Mathlib.Omega.{arith}
 use borrow.Author.Needs.{needs}
-use Rattle.format.specs.Layout.{standard}
+use Rattle.format.specs.Layout.{server}
 use Rattle.format.specs.Laws.Build.Lengths.{length-most}
 use Rattle.builder.specs.Answers.{builtOf}
 use Rattle.codes.proofs.Coded.{code-given, code-refused, told-given, told-refused, returned}
@@ -11,7 +11,7 @@ use Rattle.exports.proofs.write.fieldmap_build_length.Statement.{statem
 use Rattle.exports.proofs.write.fieldmap_build_length.Tie as tie
 
 given-requires : tie.Need-given-requires
-unfolding standard
+unfolding server
 given-requires c κs =
     let call : tie.After-build-length = search in
     let told : tie.After-end = search in

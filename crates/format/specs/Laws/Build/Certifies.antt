@@ -9,7 +9,7 @@ use native.Mathlib.Omega.{arith}
 use lib.ListN.{length, length-append}
 use lib.Dec.{leb, eqb, lit≤}
 use borrow.Author.Tests.{leb-true, eqb-true, le-leb}
-use Rattle.format.specs.Layout.{Width, two, four, eight, bytes, Layout, signBits, pointer, standard, nested}
+use Rattle.format.specs.Layout.{Width, two, four, eight, bytes, Layout, signBits, pointer, server, nested}
 use Rattle.format.specs.Refusal.{gives, provided}
 use Rattle.format.specs.Bytes.{AllWords}
 use Rattle.format.specs.Check.{counted}
@@ -55,13 +55,13 @@ module _ (L : Layout) (least : 3 ≤ L .entries) (most : L .entries ≤ 15) wher
 
   -- At most 40,000 entries with ascending keys, after a header of at most 4,096 bytes.
   built : (front : List ℕ) (es : List KeyValue) → length front ≤ 4096 → length es ≤ 40000 → AllFit es → rises (keysOf es) ≡ true
-      → archiveEmplaces L (treeOf L es) (start L (treeOf L es) (length front)) ≡ true → Built L standard front es
-  unfolding standard nested
-  built front [] low few fit asc off = built-none L standard front (in-range L least most) (lit≤ tt) (archive-most L least most front [] low few)
+      → archiveEmplaces L (treeOf L es) (start L (treeOf L es) (length front)) ≡ true → Built L server front es
+  unfolding server nested
+  built front [] low few fit asc off = built-none L server front (in-range L least most) (lit≤ tt) (archive-most L least most front [] low few)
   built front (e ∷ es) low few fit asc off =
       let n = length (e ∷ es) in
       let r : reach L (height L n - 1) (lastLevel L n) ≤ 2 ^ signBits (L .width) = leb-true _ _ (sym (emplaces-by (e ∷ es) (length front) low few) ∙ off) in
-      built-some L standard front e es (in-range L least most) fit (lit≤ tt) asc (omega (arith, height-most L least most n (omega arith) few))
+      built-some L server front e es (in-range L least most) fit (lit≤ tt) asc (omega (arith, height-most L least most n (omega arith) few))
       (omega (arith, wide (L .width))) (reach-near L e es (start L (treeOf L (e ∷ es)) (length front)) (omega arith) r)
       (omega (arith, inner-most L least most, bits-node (L .width))) (lit≤ tt) (archive-most L least most front (e ∷ es) low few)
 
@@ -75,7 +75,7 @@ build-certifies L front ks vs out n hk hv e =
     let A = layout-takes L ks vs (length front) out n e in
     let es = pairs ks vs in
     let el = length-pairs ks vs (T .lengths) in
-    let l = list L standard (archive L front es) in
+    let l = list L server (archive L front es) in
     let asc = ap rises (keys-pairs ks vs (T .lengths)) ∙ T .ascends in
     let B = built L (A .least) (A .most) front es (T .header) (omega (arith, T .few)) (pairs-fit ks vs hk hv) asc (A .offsets) in
     let eb : behind L (length front) (treeOf L es) (length es) ≡ behind L (length front) (treeOf L es) (length ks) =

@@ -9,7 +9,7 @@ use native.Mathlib.Nat.{suc-ne-zero}
 use lib.Dec.{leb}
 use lib.ListN.{length, replicate, length-replicate}
 use borrow.Author.Tests.{leb-true, le-leb, lt-leb, eq-eqb}
-use Rattle.format.specs.Layout.{Layout, entriesInRange, signBits, pointer, standard}
+use Rattle.format.specs.Layout.{Layout, entriesInRange, signBits, pointer, server}
 use Rattle.format.specs.Refusal.{Answer, gives, refuses, provided, andThen}
 use Rattle.format.specs.Align.{zerosTo}
 use Rattle.format.specs.Tree.{Branch, noneB, someB, lengthBranch, KeyValue}
@@ -72,7 +72,7 @@ few-noughts n e = omega (arith, so-many n, leb-true n 40000 e)
 
 module _ (L : Layout) (n h : ℕ) where
   -- It never leads past the limit of a check.
-  pub length-most : (m : ℕ) → buildLength L n h ≡ gives m → m ≤ standard .longest
+  pub length-most : (m : ℕ) → buildLength L n h ≡ gives m → m ≤ server .longest
   unfolding buildLength
   length-most m e =
       let (e₀, a₀) = provided-inv (entriesInRange L) _ _ e in
@@ -158,5 +158,5 @@ module _ (L : Layout) (ks vs : List ℕ) (h : ℕ) where
       sym (by-length (T .lengths) (T .ascends) room (omega (arith, T .fits, T .size))) ∙ e
 
   -- So no build ends past the limit of a check.
-  pub build-most : (room n : ℕ) → build L ks vs h room ≡ gives n → n ≤ standard .longest
+  pub build-most : (room n : ℕ) → build L ks vs h room ≡ gives n → n ≤ server .longest
   build-most room n e = length-most L (length ks) h n (length-given room n e)

@@ -7,7 +7,7 @@ use native.Mathlib.Omega.{arith}
 use native.Mathlib.Nat.{mul-le-mul, mul-le-mul-right, div-add-mod'}
 use lib.Dec.{lit≤}
 use lib.ListN.{length, length-append}
-use Rattle.format.specs.Layout.{Width, two, four, eight, bytes, Layout, pointer, leafSize, innerSize, standard}
+use Rattle.format.specs.Layout.{Width, two, four, eight, bytes, Layout, pointer, leafSize, innerSize, server}
 use Rattle.format.specs.Tree.{Branch, noneB, someB, lengthBranch, KeyValue}
 use Rattle.format.specs.Build.{logFrom, height, lastLevel, treeOf, start, behind, archive}
 use Rattle.format.specs.Weight.{upper, weight, innersOver, up, reach, firstOwn}
@@ -156,11 +156,11 @@ module _ (L : Layout) (least : 3 ≤ L .entries) (most : L .entries ≤ 15) wher
   start-near noneB h = omega (arith, zeros-lt (pointer L) h (bytes-some (L .width)), bytes-few (L .width))
   start-near (someB t) h = omega (arith, zeros-lt 8 h (omega arith))
 
-  pub end-most : (h n : ℕ) (es : List KeyValue) → h ≤ 4096 → length es ≤ 40000 → h + length (behind L h (treeOf L es) n) ≤ standard .longest
-  unfolding standard
+  pub end-most : (h n : ℕ) (es : List KeyValue) → h ≤ 4096 → length es ≤ 40000 → h + length (behind L h (treeOf L es) n) ≤ server .longest
+  unfolding server
   end-most h n es low few = omega (arith, behind-length L h n (treeOf L es), start-near (treeOf L es) h, tree-long es few, bytes-few (L .width))
 
-  pub archive-most : (front : List ℕ) (es : List KeyValue) → length front ≤ 4096 → length es ≤ 40000 → length (archive L front es) ≤ standard .longest
+  pub archive-most : (front : List ℕ) (es : List KeyValue) → length front ≤ 4096 → length es ≤ 40000 → length (archive L front es) ≤ server .longest
   unfolding archive
   archive-most front es low few =
       let e = length-append front (behind L (length front) (treeOf L es) (length es)) in

@@ -3,7 +3,7 @@ use Prim.Native.Nat.{_+_, _≤_, _<_}
 use mathlib.Core.Path.{_≡_, refl, sym, ap, subst, _∙_}
 use native.Mathlib.Omega.{arith}
 use lib.ListN.{length}
-use Rattle.format.specs.Layout.{Layout, layoutOf, leafSize, standard, nested}
+use Rattle.format.specs.Layout.{Layout, layoutOf, leafSize, server, nested}
 use Rattle.format.specs.Lookup.{lookupAt}
 use Rattle.format.specs.Readable.{Node}
 use Rattle.format.specs.Laws.Read.Node.{node-room, as-leaf, as-inner, child-falls}
@@ -15,8 +15,8 @@ use Rattle.lookups.proofs.map.get_key_value_raw.Tie as tie
 abbrev Inv-loop : tie.InvT-loop
 Inv-loop archive layout key current₀ current =
     let L = layoutOf layout in
-    (current .0 + leafSize L ≤ length archive) × Node L standard archive (current .0)
-    × (lookupAt L archive key (nested standard) (current .0) ≡ lookupAt L archive key (nested standard) (current₀ .0))
+    (current .0 + leafSize L ≤ length archive) × Node L server archive (current .0)
+    × (lookupAt L archive key (nested server) (current .0) ≡ lookupAt L archive key (nested server) (current₀ .0))
 
 abbrev μ-loop : tie.MeasureT-loop
 μ-loop archive layout key current₀ current = current .0
@@ -24,14 +24,14 @@ abbrev μ-loop : tie.MeasureT-loop
 common-get-requires : tie.Need-common-get-requires Inv-loop μ-loop
 common-get-requires c κs =
     let start : tie.Start Inv-loop μ-loop = search in
-    subst (λ (L : Layout). Node L standard (start .args .archive .now) (start .args .pos .0)) (c .before .is-common .ensures (c .if1 .taken)) (start .pre .1)
+    subst (λ (L : Layout). Node L server (start .args .archive .now) (start .args .pos .0)) (c .before .is-common .ensures (c .if1 .taken)) (start .pre .1)
 
 returns : tie.Need-returns Inv-loop μ-loop
 returns c =
     let common : tie.Then1 Inv-loop μ-loop = search in
     let start : tie.Start Inv-loop μ-loop = search in
     c .common-get .ensures
-    ∙ ap (λ (L : Layout). lookupAt L (start .args .archive .now) (start .args .key) (nested standard) (start .args .pos .0))
+    ∙ ap (λ (L : Layout). lookupAt L (start .args .archive .now) (start .args .key) (nested server) (start .args .pos .0))
     (sym (common .before .is-common .ensures (common .if1 .taken)))
 
 loop-holds : tie.Need-loop-holds Inv-loop μ-loop
@@ -43,13 +43,13 @@ leaf-len-requires c κs = (search needs, search as-leaf)
 seek-slot-requires : tie.Need-seek-slot-requires Inv-loop μ-loop
 seek-slot-requires c κs =
     let head : tie.At-loop Inv-loop μ-loop = search in
-    let few = leaf-count _ standard _ _ (head .loop .inv .1) (search) (c .leaf-len .ensures) in
+    let few = leaf-count _ server _ _ (head .loop .inv .1) (search) (c .leaf-len .ensures) in
     omega arith
 
 slot-requires : tie.Need-slot-requires Inv-loop μ-loop
 slot-requires c κs =
     let start : tie.Start Inv-loop μ-loop = search in
-    (search needs, omega arith, search (leaf-slot (layoutOf (start .args .layout)) standard))
+    (search needs, omega arith, search (leaf-slot (layoutOf (start .args .layout)) server))
 
 returns-2 : tie.Need-returns-2 Inv-loop μ-loop
 returns-2 c = search leaf-hit
@@ -75,7 +75,7 @@ down : (c : tie.After-q Inv-loop μ-loop)
     let start : tie.Start Inv-loop μ-loop = search in
     let a = start .args in
     let q = c .q .given .0 .0 .0 in
-    (q < head .loop .current .0) × Node (layoutOf (a .layout)) standard (a .archive .now) q
+    (q < head .loop .current .0) × Node (layoutOf (a .layout)) server (a .archive .now) q
 down c =
     let read : tie.After-child-at Inv-loop μ-loop = search in
     child-falls _ _ _ _ refl (search) (search) (search seek-child) (read .child-at .ensures) (c .q .given .1)

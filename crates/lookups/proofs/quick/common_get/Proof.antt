@@ -3,7 +3,7 @@ use Prim.Native.Nat.{_+_, _≤_, _<_}
 use mathlib.Core.Path.{_≡_, refl}
 use native.Mathlib.Omega.{arith}
 use lib.ListN.{length}
-use Rattle.format.specs.Layout.{layout32, leafSize, standard, nested}
+use Rattle.format.specs.Layout.{layout32, leafSize, server, nested}
 use Rattle.format.specs.Lookup.{lookupAt}
 use Rattle.format.specs.Readable.{Node}
 use Rattle.format.specs.Laws.Read.Node.{node-room, as-leaf, as-inner, child-falls}
@@ -14,8 +14,8 @@ use Rattle.lookups.proofs.quick.common_get.Tie as tie
 
 abbrev Inv-loop : tie.InvT-loop
 Inv-loop archive key current₀ current =
-    (current .0 + leafSize layout32 ≤ length archive) × Node layout32 standard archive (current .0)
-    × (lookupAt layout32 archive key (nested standard) (current .0) ≡ lookupAt layout32 archive key (nested standard) (current₀ .0))
+    (current .0 + leafSize layout32 ≤ length archive) × Node layout32 server archive (current .0)
+    × (lookupAt layout32 archive key (nested server) (current .0) ≡ lookupAt layout32 archive key (nested server) (current₀ .0))
 
 abbrev μ-loop : tie.MeasureT-loop
 μ-loop archive key current₀ current = current .0
@@ -29,12 +29,12 @@ leaf-len-requires c κs = (search needs, search as-leaf)
 seek-slot-requires : tie.Need-seek-slot-requires Inv-loop μ-loop
 seek-slot-requires c κs =
     let head : tie.At-loop Inv-loop μ-loop = search in
-    let few = leaf-count _ standard _ _ (head .loop .inv .1) (search) (c .leaf-len .ensures) in
+    let few = leaf-count _ server _ _ (head .loop .inv .1) (search) (c .leaf-len .ensures) in
     omega arith
 
 slot-requires : tie.Need-slot-requires Inv-loop μ-loop
 slot-requires c κs =
-    (search needs, omega arith, search (leaf-slot layout32 standard))
+    (search needs, omega arith, search (leaf-slot layout32 server))
 
 returns : tie.Need-returns Inv-loop μ-loop
 returns c = search leaf-hit
@@ -59,7 +59,7 @@ down : (c : tie.After-q Inv-loop μ-loop)
     → let head : tie.At-loop Inv-loop μ-loop = search in
     let a = head .before .before .args in
     let q = c .q .given .0 .0 .0 in
-    (q < head .loop .current .0) × Node layout32 standard (a .archive .now) q
+    (q < head .loop .current .0) × Node layout32 server (a .archive .now) q
 down c =
     let read : tie.After-child-at Inv-loop μ-loop = search in
     child-falls _ _ _ _ refl (search) (search) (search seek-child) (read .child-at .ensures) (c .q .given .1)

@@ -4,7 +4,7 @@ use mathlib.Core.List.{List}
 use Rattle.format.specs.declared.Entry.{Entry}
 use Rattle.format.specs.declared.Ends.{Ends}
 use Rattle.format.specs.declared.Ends.the-variants.{Nothing}
-use Rattle.format.specs.Layout.{layoutOf, standard, nested}
+use Rattle.format.specs.Layout.{layoutOf, server, nested}
 use Rattle.format.specs.Bytes.{AllBytes}
 use Rattle.format.specs.Entries.{listAt}
 use Rattle.format.specs.Range.{matches, select, held}
@@ -17,7 +17,7 @@ use Rattle.ranges.proofs.iter.range_with.Tie as tie
 
 -- The entries from the root on.
 abbrev entries : tie.Start → List Entry
-entries start = listAt (layoutOf (start .args .layout)) (start .args .archive .now) (nested standard) (start .args .root .0)
+entries start = listAt (layoutOf (start .args .layout)) (start .args .archive .now) (nested server) (start .args .root .0)
 
 -- The ends that are decided on select what the bounds select.
 same : (c : tie.After-ends-of) (ends : Ends) → c .ends-of .result ≡ ends

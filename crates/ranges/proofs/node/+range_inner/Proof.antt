@@ -5,7 +5,7 @@ use mathlib.Core.List.{[]}
 use mathlib.Core.Logic.{inl, ⊎-elim, ⊎-map}
 use native.Mathlib.Omega.{arith}
 use lib.ListN.{length}
-use Rattle.format.specs.Layout.{Layout, layoutOf, standard, nested}
+use Rattle.format.specs.Layout.{Layout, layoutOf, server, nested}
 use Rattle.format.specs.Entries.{listAt}
 use Rattle.format.specs.Certify.{Ascending}
 use Rattle.format.specs.Readable.{Node}
@@ -43,9 +43,9 @@ below t = and 3 kinds.ps (falls 3 kinds.ps _<_ μ t) range-inner.Pre
 abbrev Inv-loop : lts.InvT-loop
 Inv-loop archive layout pos least greatest keys₀ values₀ start at₀ i₀ keys values at i =
     let L = layoutOf layout in
-    let left = rest L archive standard (pos .0) in
+    let left = rest L archive server (pos .0) in
     (i ≤ layout .entries + 1) × (length keys ≡ length keys₀) × (length values ≡ length values₀) × Ascending (left i)
-    × (ranged least greatest (left i) (out keys values at) ≡ ranged least greatest (listAt L archive (nested standard) (pos .0)) (out keys₀ values₀ at₀))
+    × (ranged least greatest (left i) (out keys values at) ≡ ranged least greatest (listAt L archive (nested server) (pos .0)) (out keys₀ values₀ at₀))
 
 abbrev μ-loop : lts.MeasureT-loop
 μ-loop archive layout pos least greatest keys₀ values₀ start at₀ i₀ keys values at i = layout .entries + 1 - i
@@ -73,16 +73,16 @@ module _ (t : ℕ) (c : Of t lts.After-q) where
   abbrev field : Of t lts.After-child-at
   field = c .before .before
 
-  lower : (c .q .given .0 .0 .0 < t) × Node (L t field) standard (start t field .args .archive .now) (c .q .given .0 .0 .0)
+  lower : (c .q .given .0 .0 .0 < t) × Node (L t field) server (start t field .args .archive .now) (c .q .given .0 .0 .0)
   lower =
       let pre = start t field .pre in
-      child-falls _ standard _ _ (pre .0) (pre .1 .0 .1) (pre .1 .0 .2) (omega arith) (field .child-at .ensures) (c .q .given .1)
+      child-falls _ server _ _ (pre .0) (pre .1 .0 .1) (pre .1 .0 .2) (omega arith) (field .child-at .ensures) (c .q .given .1)
 
   fits : let a = start t field .args in
-      Fits (a .least) (a .greatest) (2 ^ 64) (head t field .loop .at) (listAt (L t field) (a .archive .now) (nested standard) (c .q .given .0 .0 .0))
+      Fits (a .least) (a .greatest) (2 ^ 64) (head t field .loop .at) (listAt (L t field) (a .archive .now) (nested server) (c .q .given .0 .0 .0))
   fits =
       let inv = head t field .loop .inv in
-      child-fits _ _ standard _ _ _ _ _ _ _ _ (omega arith) (inv .3) (inv .4) (start t field .pre .1 .1 .1) (field .child-at .ensures) (c .q .given .1)
+      child-fits _ _ server _ _ _ _ _ _ _ _ (omega arith) (inv .3) (inv .4) (start t field .pre .1 .1 .1) (field .child-at .ensures) (c .q .given .1)
 
 -- Where the arms of the child's test meet: what the child gives is done, or there is no child.
 module _ (t : ℕ) (c : Of t lts.At-match-came) where
@@ -99,13 +99,13 @@ module _ (t : ℕ) (c : Of t lts.At-match-came) where
 
   joined : let a = start t (c .before) .args in let o = head t (c .before) .loop in
       out (c .match .keys) (c .match .values) (c .match .at)
-      ≡ ranged (a .least) (a .greatest) (at-child (L t (c .before)) (a .archive .now) standard (a .pos .0) (o .i)) (out (o .keys) (o .values) (o .at))
+      ≡ ranged (a .least) (a .greatest) (at-child (L t (c .before)) (a .archive .now) server (a .pos .0) (o .i)) (out (o .keys) (o .values) (o .at))
   joined =
       next-child _ _ (ranged _ _) [] (runs-none _) _ _ _ _ _ _ (c .before .child-at .ensures)
       (⊎-elim
       (λ w.
       let there : Of t lts.After-q = record { before = record { before = c .before; match = w .0 }; q = w .1 } in
-      inl (_, w .1 .given .1, leaf-run _ _ _ standard _ _ _ (lower t there .1) (w .4 .taken) (out-same (w .12) (w .13) (w .14) ∙ w .7 .ensures)))
+      inl (_, w .1 .given .1, leaf-run _ _ _ server _ _ _ (lower t there .1) (w .4 .taken) (out-same (w .12) (w .13) (w .14) ∙ w .7 .ensures)))
       (⊎-map (λ w. (_, w .1 .given .1, out-same (w .12) (w .13) (w .14) ∙ w .7 .ensures)) (λ w. (w .1 .given .1, out-same (w .2) (w .3) (w .4))))
       (c .match .came))
 
@@ -124,9 +124,9 @@ module _ (t : ℕ) (c : Of t lts.Joined4) where
 
   passed : let a = start t (met .before) .args in
       let L = layoutOf (a .layout) in
-      ranged (a .least) (a .greatest) (rest L (a .archive .now) standard (a .pos .0) (head t (met .before) .loop .i + 1))
+      ranged (a .least) (a .greatest) (rest L (a .archive .now) server (a .pos .0) (head t (met .before) .loop .i + 1))
       (out (c .if4 .keys) (c .if4 .values) (c .if4 .at))
-      ≡ ranged (a .least) (a .greatest) (listAt L (a .archive .now) (nested standard) (a .pos .0)) (out (a .keys .now) (a .values .now) (a .start))
+      ≡ ranged (a .least) (a .greatest) (listAt L (a .archive .now) (nested server) (a .pos .0)) (out (a .keys .now) (a .values .now) (a .start))
   passed =
       let past = met .before .before in
       let sum = head t (met .before) .loop .inv .4 in
@@ -140,7 +140,7 @@ loop-holds : (t : ℕ) → Of t lts.Need-loop-holds
 loop-holds t c =
     let start : Of t lts.Start = search in
     let pre = start .pre .1 in
-    let all = rest-all _ _ standard (pre .0 .1) (pre .0 .2) in
+    let all = rest-all _ _ server (pre .0 .1) (pre .0 .2) in
     (omega arith, refl, refl, rw all (pre .1 .0), rw all)
 
 loop-again : (t : ℕ) → Of t lts.Need-loop-again
@@ -152,16 +152,16 @@ loop-again t c =
     let key = c .before .key-after .ensures in
     let more = slot-there (key .1) (c .if2 .taken) (start .fits .least .fits) in
     let low =
-    pass-low _ _ (at-child L _ standard _ _) _ _ (rest-more _ _ standard _ _ more) (inv .3) (slot-key L _ _ _ _ (key .0 more)) _ _ _ (inv .4) (c .if2 .taken) in
-    (omega arith, inv .1, inv .2, rest-ascends _ _ standard _ _ (inv .3), low)
+    pass-low _ _ (at-child L _ server _ _) _ _ (rest-more _ _ server _ _ more) (inv .3) (slot-key L _ _ _ _ (key .0 more)) _ _ _ (inv .4) (c .if2 .taken) in
+    (omega arith, inv .1, inv .2, rest-ascends _ _ server _ _ (inv .3), low)
 
 range-leaf-requires : (t : ℕ) → Of t lts.Need-range-leaf-requires
 range-leaf-requires t c κs =
     let there : Of t lts.After-q = search in
     let leaf : Of t lts.Then3 = search in
     let node = lower t there .1 in
-    let some = leaf-fits _ _ standard _ _ _ _ _ node (leaf .if3 .taken) (fits t there) in
-    (start t (field t there) .pre .1 .0 .0, (as-leaf _ standard _ node (leaf .if3 .taken), some))
+    let some = leaf-fits _ _ server _ _ _ _ _ node (leaf .if3 .taken) (fits t there) in
+    (start t (field t there) .pre .1 .0 .0, (as-leaf _ server _ node (leaf .if3 .taken), some))
 
 range-inner-requires : (t : ℕ) → Of t lts.Need-range-inner-requires
 range-inner-requires t c κs =
@@ -176,7 +176,7 @@ returns t c =
     let more = c .before .if4 .taken in
     let inv = head t (met .before) .loop .inv in
     let key = slot-key _ _ _ _ _ (met .before .before .before .key-after .ensures .0 more) in
-    stop-past _ _ _ _ _ (rest-more _ _ standard _ _ more) (inv .3) key _ _ _ (inv .4) _ (joined t met) (c .if5 .taken)
+    stop-past _ _ _ _ _ (rest-more _ _ server _ _ more) (inv .3) key _ _ _ (inv .4) _ (joined t met) (c .if5 .taken)
 
 add-at : (t : ℕ) → Of t lts.Need-add-at
 add-at t c =
@@ -187,7 +187,7 @@ add-at t c =
     let past = met .before .before in
     let key = slot-key _ _ _ _ _ (past .before .key-after .ensures .0 more) in
     let fits =
-    one-fits _ _ _ _ _ (rest-more _ _ standard _ _ more) (inv .3) key _ _ _ (inv .4) _ (joined t met) _ (start t (met .before) .pre .1 .1 .1) in
+    one-fits _ _ _ _ _ (rest-more _ _ server _ _ more) (inv .3) key _ _ _ (inv .4) _ (joined t met) _ (start t (met .before) .pre .1 .1 .1) in
     omega (arith, fits (past .if2 .left) (hit .if5 .left))
 
 pub +range-inner-spec : {M : Type 1} → statement M
@@ -200,7 +200,7 @@ pub +range-inner-spec : {M : Type 1} → statement M
     (search needs)
     (search needs)
     (loop-again t)
-    (λ c κs. let start : Of t lts.Start = search in let pre = start .pre .1 .0 in (pre .0, as-inner _ standard _ (pre .1) (pre .2), omega arith))
+    (λ c κs. let start : Of t lts.Start = search in let pre = start .pre .1 .0 in (pre .0, as-inner _ server _ (pre .1) (pre .2), omega arith))
     (search needs)
     (λ c. let there : Of t lts.After-q = search in omega (arith, node-room _ _ _ (lower t there .1)))
     (range-leaf-requires t)
@@ -213,7 +213,7 @@ pub +range-inner-spec : {M : Type 1} → statement M
     (add-at t)
     (search needs)
     (search needs)
-    (λ c. (omega arith, kept t c .0, kept t c .1, rest-ascends _ _ standard _ _ (head t (met t c .before) .loop .inv .3), passed t c))
+    (λ c. (omega arith, kept t c .0, kept t c .1, rest-ascends _ _ server _ _ (head t (met t c .before) .loop .inv .3), passed t c))
     (search needs)
     (search needs)
-    (λ c. let head : Of t lts.At-loop = search in rest-done _ _ standard _ _ _ _ _ (omega arith) ∙ head .loop .inv .4)
+    (λ c. let head : Of t lts.At-loop = search in rest-done _ _ server _ _ _ _ _ (omega arith) ∙ head .loop .inv .4)

@@ -5,7 +5,7 @@ use native.Mathlib.Omega.{arith}
 use borrow.Author.Tests.{not-true, not-false}
 use lib.ListN.{length}
 use Prim.Native.Nat.{_-_}
-use Rattle.format.specs.Layout.{layoutOf, entriesInRange, standard, recordSize, recordAlign}
+use Rattle.format.specs.Layout.{layoutOf, entriesInRange, server, recordSize, recordAlign}
 use Rattle.format.specs.Laws.Numbers.Widths.{range-in}
 use Rattle.subtrees.specs.Subtree.{opened}
 use Rattle.subtrees.specs.declared.archive.SubtreeRange.{SubtreeRange}
@@ -23,42 +23,42 @@ returns c =
     let start : tie.Start = search in
     let tested : tie.After-in-range = search in
     let out-of : tie.Then1 = search in
-    archive-out (layoutOf (start .args .layout)) standard _ (sym (tested .in-range .ensures) ∙ not-true _ (out-of .if1 .taken))
+    archive-out (layoutOf (start .args .layout)) server _ (sym (tested .in-range .ensures) ∙ not-true _ (out-of .if1 .taken))
 
 returns-2 : tie.Need-returns-2
-unfolding standard
+unfolding server
 returns-2 c =
     let start : tie.Start = search in
     let in-range : tie.Else1 = search in
-    archive-long (layoutOf (start .args .layout)) standard _ (named in-range) (omega arith)
+    archive-long (layoutOf (start .args .layout)) server _ (named in-range) (omega arith)
 
 returns-3 : tie.Need-returns-3
-unfolding standard
+unfolding server
 returns-3 c =
     let start : tie.Start = search in
     let in-range : tie.Else1 = search in
-    archive-short (layoutOf (start .args .layout)) standard _ (named in-range) (omega arith) (omega arith)
+    archive-short (layoutOf (start .args .layout)) server _ (named in-range) (omega arith) (omega arith)
 
 -- What the test of the record's place answers.
 asked : (c : tie.After-in-subtree)
     → let start : tie.Start = search in
     let L = layoutOf (start .args .layout) in
     let n = length (start .args .archive .now) in
-    c .in-subtree .result ≡ opened 0 n (standard .depth) (n - recordSize L) (recordSize L) (recordAlign L)
-unfolding standard
+    c .in-subtree .result ≡ opened 0 n (server .depth) (n - recordSize L) (recordSize L) (recordAlign L)
+unfolding server
 asked c = let sized : tie.After-record = search in rw (sized .record .ensures .0, c .before .pointer .ensures .0) at (c .in-subtree .ensures)
 
 returns-4 : tie.Need-returns-4
-unfolding standard
+unfolding server
 returns-4 c =
     let told : tie.After-enum-told2 = search in
     let place : tie.After-in-subtree = search in
     let in-range : tie.Else1 = search in
-    archive-refused _ standard _ (named in-range) (omega arith) (omega arith) (asked place) (told .enum-told2 .given .1)
+    archive-refused _ server _ (named in-range) (omega arith) (omega arith) (asked place) (told .enum-told2 .given .1)
     (c .before .refused-ptr .ensures) (c .refused-node .ensures)
 
 verify-requires : tie.Need-verify-requires
-unfolding standard
+unfolding server
 verify-requires c κs =
     let e = c .push-subtree-range .ensures in
     let start : tie.Start = search in
@@ -67,12 +67,12 @@ verify-requires c κs =
     (few, omega arith, omega arith, ap (λ (r : SubtreeRange). r .start .0) e, ap (λ (r : SubtreeRange). r .end .0) e, refl)
 
 returns-5 : tie.Need-returns-5
-unfolding standard
+unfolding server
 returns-5 c =
     let told : tie.After-enum-told = search in
     let place : tie.After-in-subtree = search in
     let in-range : tie.Else1 = search in
-    c .verify .ensures ∙ archive-opened _ standard _ (named in-range) (omega arith) (omega arith) (asked place) (told .enum-told .given .1)
+    c .verify .ensures ∙ archive-opened _ server _ (named in-range) (omega arith) (omega arith) (asked place) (told .enum-told .given .1)
 
 pub check-spec : {M : Type 1} → statement M
 check-spec =

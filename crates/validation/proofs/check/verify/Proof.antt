@@ -3,7 +3,7 @@ use Prim.Native.Nat.{_+_, _-_}
 use mathlib.Core.Path.{_≡_, refl, ap, _∙_}
 use mathlib.Core.Logic.{⊎-elim}
 use native.Mathlib.Omega.{arith}
-use Rattle.format.specs.Layout.{layoutOf, standard, pointer}
+use Rattle.format.specs.Layout.{layoutOf, server, pointer}
 use Rattle.format.specs.Bytes.{leAt}
 use Rattle.format.specs.Check.{checkNode}
 use Rattle.subtrees.specs.Answers.{nodeOf}
@@ -26,11 +26,11 @@ returns : tie.Need-returns
 returns c = let read : tie.After-uint-at = search in root-none _ _ _ (start read .pre .2) (count read) (c .if1 .taken)
 
 sub-quick-root : tie.Need-sub-quick-root
-unfolding standard
+unfolding server
 sub-quick-root c = omega arith
 
 quick-root-requires : tie.Need-quick-root-requires
-unfolding standard
+unfolding server
 quick-root-requires c κs = omega arith
 
 returns-2 : tie.Need-returns-2

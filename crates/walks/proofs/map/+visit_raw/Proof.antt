@@ -5,7 +5,7 @@ use mathlib.Core.List.{[]}
 use mathlib.Core.Logic.{inl, ⊎-elim, ⊎-map}
 use native.Mathlib.Omega.{arith}
 use lib.ListN.{length}
-use Rattle.format.specs.Layout.{layoutOf, standard, nested}
+use Rattle.format.specs.Layout.{layoutOf, server, nested}
 use Rattle.format.specs.Node.{child}
 use Rattle.format.specs.Entries.{listChildren, listAt}
 use Rattle.format.specs.Readable.{childAt, Node}
@@ -41,7 +41,7 @@ below t = and 3 kinds.ps (falls 3 kinds.ps _<_ μ t) visit-raw.Pre
 abbrev Inv-loop : lts.InvT-loop
 Inv-loop archive layout pos keys₀ values₀ start at₀ i₀ keys values at i =
     let L = layoutOf layout in
-    let rest = left [] (listChildren L archive (listAt L archive (nested standard)) (pos .0)) (layout .entries) in
+    let rest = left [] (listChildren L archive (listAt L archive (nested server)) (pos .0)) (layout .entries) in
     (i ≤ layout .entries + 1) × (length keys ≡ length keys₀) × (length values ≡ length values₀)
     × (fill (rest i) (out keys values at) ≡ fill (rest i₀) (out keys₀ values₀ at₀))
 
@@ -65,11 +65,11 @@ start t c = search
 -- A child lies lower, and is accepted.
 lower : (t : ℕ) (c : Of t lts.After-q) → let q = c .q .given .0 .0 .0 in
     let a = start t (c .before .before) .args in
-    (q < t) × Node (layoutOf (a .layout)) standard (a .archive .now) q
+    (q < t) × Node (layoutOf (a .layout)) server (a .archive .now) q
 lower t c =
     let read = c .before .before in
     let pre = start t read .pre in
-    child-falls _ standard _ _ (pre .0) (pre .1 .1) (pre .1 .2) (omega arith) (read .child-at .ensures) (c .q .given .1)
+    child-falls _ server _ _ (pre .0) (pre .1 .1) (pre .1 .2) (omega arith) (read .child-at .ensures) (c .q .given .1)
 
 -- Where the arms of the child's test meet: the child's entries are written, or there is no child.
 module _ (t : ℕ) (c : Of t lts.At-match-came) where
@@ -86,13 +86,13 @@ module _ (t : ℕ) (c : Of t lts.At-match-came) where
       let L = layoutOf (a .layout) in
       let next = childAt L (a .archive .now) (child L (a .pos .0) (o .i)) in
       out (c .match .keys) (c .match .values) (c .match .at)
-      ≡ fill (onChild [] (listAt L (a .archive .now) (nested standard)) next) (out (o .keys) (o .values) (o .at))
+      ≡ fill (onChild [] (listAt L (a .archive .now) (nested server)) next) (out (o .keys) (o .values) (o .at))
   joined =
       next-child _ _ fill [] (runs-none put) _ _ _ _ _ _ (c .before .child-at .ensures)
       (⊎-elim
       (λ w.
       let there : Of t lts.After-q = record { before = record { before = c .before; match = w .0 }; q = w .1 } in
-      inl (_, w .1 .given .1, leaf-run _ _ put standard _ _ _ (lower t there .1) (w .4 .taken) (out-same (w .12) (w .13) (w .14) ∙ w .7 .ensures)))
+      inl (_, w .1 .given .1, leaf-run _ _ put server _ _ _ (lower t there .1) (w .4 .taken) (out-same (w .12) (w .13) (w .14) ∙ w .7 .ensures)))
       (⊎-map (λ w. (_, w .1 .given .1, out-same (w .12) (w .13) (w .14) ∙ w .7 .ensures)) (λ w. (w .1 .given .1, out-same (w .2) (w .3) (w .4))))
       (c .match .came))
 
@@ -111,7 +111,7 @@ module _ (t : ℕ) (c : Of t lts.Joined5) where
   passed : let h = head t (met .before) in
       let a = start t (met .before) .args in
       let L = layoutOf (a .layout) in
-      let rest = left [] (listChildren L (a .archive .now) (listAt L (a .archive .now) (nested standard)) (a .pos .0)) (a .layout .entries) in
+      let rest = left [] (listChildren L (a .archive .now) (listAt L (a .archive .now) (nested server)) (a .pos .0)) (a .layout .entries) in
       fill (rest (h .loop .i + 1)) (out (c .if5 .keys) (c .if5 .values) (c .if5 .at)) ≡ fill (rest 0) (out (a .keys .now) (a .values .now) (a .start))
   passed =
       let sum = head t (met .before) .loop .inv .3 in
@@ -131,7 +131,7 @@ child-at-requires : (t : ℕ) → Of t lts.Need-child-at-requires
 child-at-requires t c κs =
     let start : Of t lts.Start = search in
     let pre = start .pre .1 in
-    (pre .0, as-inner _ standard _ (pre .1) (pre .2), omega arith)
+    (pre .0, as-inner _ server _ (pre .1) (pre .2), omega arith)
 
 shared-slice-read-if4 : (t : ℕ) → Of t lts.Need-shared-slice-read-if4
 shared-slice-read-if4 t c = let there : Of t lts.After-q = search in omega (arith, node-room _ _ _ (lower t there .1))
@@ -140,7 +140,7 @@ visit-leaf-requires : (t : ℕ) → Of t lts.Need-visit-leaf-requires
 visit-leaf-requires t c κs =
     let there : Of t lts.After-q = search in
     let leaf : Of t lts.Then4 = search in
-    (start t (there .before .before) .pre .1 .0, as-leaf _ standard _ (lower t there .1) (leaf .if4 .taken))
+    (start t (there .before .before) .pre .1 .0, as-leaf _ server _ (lower t there .1) (leaf .if4 .taken))
 
 visit-raw-requires : (t : ℕ) → Of t lts.Need-visit-raw-requires
 visit-raw-requires t c κs =
@@ -163,7 +163,7 @@ returns-2 : (t : ℕ) → Of t lts.Need-returns-2
 returns-2 t c =
     let start : Of t lts.Start = search in
     let head : Of t lts.At-loop = search in
-    left-done _ _ put standard _ _ _ _ (start .pre .1 .1) (start .pre .1 .2) (omega arith) (head .loop .inv .3)
+    left-done _ _ put server _ _ _ _ (start .pre .1 .1) (start .pre .1 .2) (omega arith) (head .loop .inv .3)
 
 pub +visit-raw-spec : {M : Type 1} → statement M
 +visit-raw-spec =
