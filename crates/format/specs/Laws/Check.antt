@@ -4,5 +4,6 @@ pub mod Count
 pub mod Reach
 pub mod Archive
 pub mod Refusals
+pub mod Limits
 pub mod Depth
 pub mod Bounds

@@ -3,6 +3,7 @@ pub mod Bytes
 pub mod Signed
 pub mod RelPtr
 pub mod Widths
+pub mod Limits
 pub mod Align
 pub mod Degrees
 pub mod Key

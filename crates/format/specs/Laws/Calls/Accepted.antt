@@ -9,7 +9,7 @@ use lib.ListN.{length}
 use Rattle.format.specs.declared.Entry.{Entry}
 use Rattle.format.specs.declared.Found.{Found}
 use Rattle.format.specs.declared.Found.the-variants.{Nothing as nothing}
-use Rattle.format.specs.Layout.{Layout, recordSize, Limits, nested}
+use Rattle.format.specs.Layout.{Layout, recordSize, Limits, Within, nested}
 use Rattle.format.specs.Refusal.{gives, refuses}
 use Rattle.format.specs.RelPtr.{at, target}
 use Rattle.format.specs.Check.{Checked, accepted, refused, counted, root, recorded, checkArchive}
@@ -22,7 +22,7 @@ use Rattle.format.specs.Accepted.{Rooted, Archive}
 use Rattle.format.specs.Readable.{Down, Node}
 use Rattle.format.specs.Laws.Check.Archive.{archive}
 use Rattle.format.specs.Laws.Certify.Certified.{certify-hollow, certify-order, certify-passes, certify-refused}
-use Rattle.format.specs.Laws.Read.Node.{root-down, root-node}
+use Rattle.format.specs.Laws.Read.Node.{root-down, root-node, node-within, list-within, lookup-within, hollow-within}
 use Rattle.format.specs.Laws.Read.Written.{none-walked}
 
 pub gives-inv : (a : Checked) (n : ℕ) → counted a ≡ gives n → (t : ℕ) × (a ≡ accepted n t)
@@ -176,61 +176,65 @@ module _ (L : Layout) (M : Limits) (s : List ℕ) where
       unfolding root
       root-back = root-down L M s rooted
 
-      module _ (q : ℕ) (t : target L s (length s - recordSize L) ≡ at q) where
+      -- At q, with limits M′ that are nowhere below.
+      module _ (q : ℕ) (t : target L s (length s - recordSize L) ≡ at q) {M′ : Limits} (within : Within M M′) where
         is-root : rooted .pos ≡ q
         unfolding root
         is-root = let l = rooted .leads in cc
 
-        pub node : Node L M s q
-        node = subst (Node L M s) is-root (root-node L M s arch rooted)
+        own : Node L M s q
+        own = subst (Node L M s) is-root (root-node L M s arch rooted)
+
+        pub node : Node L M′ s q
+        node = node-within L within s own
 
         leads : target L s (root L s) ≡ at q
         unfolding root
         leads = t
 
-        pub list-root : list L M s ≡ listAt L s (nested M) q
+        pub list-root : list L M s ≡ listAt L s (nested M′) q
         unfolding list
         list-root = go (recorded L s) some
           where
-            go : (r : ℕ) → 0 < r → listOf L M s r ≡ listAt L s (nested M) q
+            go : (r : ℕ) → 0 < r → listOf L M s r ≡ listAt L s (nested M′) q
             go zero h = absurd (omega arith)
-            go (suc r) h = rw leads
+            go (suc r) h = rw leads (list-within L within s own)
 
-        hollow-root : hollowOf L M s (recorded L s) ≡ hollowAt L s (nested M) q
+        pub hollow-root : hollowOf L M s (recorded L s) ≡ hollowAt L s (nested M′) q
         hollow-root = go (recorded L s) some
           where
-            go : (r : ℕ) → 0 < r → hollowOf L M s r ≡ hollowAt L s (nested M) q
+            go : (r : ℕ) → 0 < r → hollowOf L M s r ≡ hollowAt L s (nested M′) q
             go zero h = absurd (omega arith)
-            go (suc r) h = rw leads
+            go (suc r) h = rw leads (hollow-within L within s own)
 
-        lookup-root : (k : ℕ) → lookup L M s k ≡ lookupAt L s k (nested M) q
+        pub lookup-root : (k : ℕ) → lookup L M s k ≡ lookupAt L s k (nested M′) q
         unfolding lookup
         lookup-root k = go (recorded L s) some
           where
-            go : (r : ℕ) → 0 < r → lookupOf L M s k r ≡ lookupAt L s k (nested M) q
+            go : (r : ℕ) → 0 < r → lookupOf L M s k r ≡ lookupAt L s k (nested M′) q
             go zero h = absurd (omega arith)
-            go (suc r) h = rw leads
+            go (suc r) h = rw leads (lookup-within L within s own k)
 
-        pub certify-8 : (h : Bool) → h ≡ hollowAt L s (nested M) q → h ≡ true → counted (certify L M s) ≡ refuses 8
+        pub certify-8 : (h : Bool) → h ≡ hollowAt L s (nested M′) q → h ≡ true → counted (certify L M s) ≡ refuses 8
         certify-8 h eh y = ap counted (certify-hollow L M s n next accepts (hollow-root ∙ sym eh ∙ y))
 
-        module _ (h o : Bool) (eh : h ≡ hollowAt L s (nested M) q) (eo : o ≡ ascends (listAt L s (nested M) q)) (y : h ≡ false) where
+        module _ (h o : Bool) (eh : h ≡ hollowAt L s (nested M′) q) (eo : o ≡ ascends (listAt L s (nested M′) q)) (y : h ≡ false) where
           pub certify-9 : o ≡ false → counted (certify L M s) ≡ refuses 9
           certify-9 w = ap counted (certify-order L M s n next accepts (hollow-root ∙ sym eh ∙ y) (ap ascends list-root ∙ sym eo ∙ w))
 
           pub certify-all : o ≡ true → counted (certify L M s) ≡ gives n
           certify-all w = ap counted (certify-passes L M s n next accepts (hollow-root ∙ sym eh ∙ y) (ap ascends list-root ∙ sym eo ∙ w))
 
-        pub lookup-gives : (k : ℕ) (f : Found) → f ≡ lookupAt L s k (nested M) q → lookupCall L M s k ≡ gives f
+        pub lookup-gives : (k : ℕ) (f : Found) → f ≡ lookupAt L s k (nested M′) q → lookupCall L M s k ≡ gives f
         lookup-gives k f ef = lookup-accepted k ∙ ap gives (lookup-root k ∙ sym ef)
 
-        pub bytes-gives : (k : ℕ) → bytesCall L M s k ≡ bytesOf s (lookupAt L s k (nested M) q)
+        pub bytes-gives : (k : ℕ) → bytesCall L M s k ≡ bytesOf s (lookupAt L s k (nested M′) q)
         bytes-gives k = bytes-accepted k ∙ ap (bytesOf s) (lookup-root k)
 
-        pub place-gives : (a : ℕ × ℕ) (k : ℕ) → placeCall L M s a k ≡ placeOf a (lookupAt L s k (nested M) q)
+        pub place-gives : (a : ℕ × ℕ) (k : ℕ) → placeCall L M s a k ≡ placeOf a (lookupAt L s k (nested M′) q)
         place-gives a k = place-accepted a k ∙ ap (placeOf a) (lookup-root k)
 
-        module _ (ks vs ks′ vs′ : List ℕ) (w : ℕ) (ew : out ks′ vs′ w ≡ walked (listAt L s (nested M) q) ks vs) where
+        module _ (ks vs ks′ vs′ : List ℕ) (w : ℕ) (ew : out ks′ vs′ w ≡ walked (listAt L s (nested M′) q) ks vs) where
           whole : walked (list L M s) ks vs ≡ out ks′ vs′ w
           whole = ap (λ (l : List Entry). walked l ks vs) list-root ∙ sym ew
 

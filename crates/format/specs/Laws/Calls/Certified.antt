@@ -11,7 +11,7 @@ use Rattle.format.specs.declared.Entry.{Entry}
 use Rattle.format.specs.declared.Bound.{Bound}
 use Rattle.format.specs.declared.Bound.the-variants.{Included}
 use Rattle.format.specs.declared.Packing.{Packing}
-use Rattle.format.specs.Layout.{Layout, recordSize, Limits, nested}
+use Rattle.format.specs.Layout.{Layout, recordSize, Limits, Within, nested}
 use Rattle.format.specs.Refusal.{gives, refuses}
 use Rattle.format.specs.RelPtr.{at, target}
 use Rattle.format.specs.Key.{Degrees, keyOf, bitsOf, Column, columnBounds}
@@ -75,8 +75,9 @@ module _ (L : Layout) (M : Limits) (s : List ℕ) where
     certified-accepts = ap counted (certify-accepts L M s n (gives-inv (certify L M s) n e .0) certifies)
 
     -- The keys below the root ascend.
-    pub ascending-root : (n ≡ 0 → ⊥) → (q : ℕ) → target L s (length s - recordSize L) ≡ at q → Ascending (listAt L s (nested M) q)
-    ascending-root z q t = subst Ascending (list-root L M s n certified-accepts z q t) (is-certified .ascending)
+    pub ascending-root : (n ≡ 0 → ⊥) → (q : ℕ) → target L s (length s - recordSize L) ≡ at q → {M′ : Limits} → Within M M′
+        → Ascending (listAt L s (nested M′) q)
+    ascending-root z q t within = subst Ascending (list-root L M s n certified-accepts z q t within) (is-certified .ascending)
 
     module _ (lo hi : Bound) (ks vs : List ℕ) where
       pub range-certified : rangeCall L M s lo hi ks vs ≡ gives (record { written = written (range L M s lo hi) ks vs; matching = length (range L M s lo hi) })
@@ -120,12 +121,12 @@ module _ (L : Layout) (M : Limits) (s : List ℕ) where
         pub range-values-none : rangeValues L M s lo hi ks vs ≡ vs
         range-values-none = values-answers [] no-range 0 refl ks vs 0 (sym (none-walked ks vs))
 
-      module _ (z : n ≡ 0 → ⊥) (q : ℕ) (t : target L s (length s - recordSize L) ≡ at q) (m : ℕ)
-          (em : m ≡ length (select (matches lo hi) (listAt L s (nested M) q))) (ks′ vs′ : List ℕ) (w : ℕ)
-          (ew : out ks′ vs′ w ≡ walked (select (matches lo hi) (listAt L s (nested M) q)) ks vs) where
-        range-root : range L M s lo hi ≡ select (matches lo hi) (listAt L s (nested M) q)
+      module _ (z : n ≡ 0 → ⊥) (q : ℕ) (t : target L s (length s - recordSize L) ≡ at q) {M′ : Limits} (within : Within M M′) (m : ℕ)
+          (em : m ≡ length (select (matches lo hi) (listAt L s (nested M′) q))) (ks′ vs′ : List ℕ) (w : ℕ)
+          (ew : out ks′ vs′ w ≡ walked (select (matches lo hi) (listAt L s (nested M′) q)) ks vs) where
+        range-root : range L M s lo hi ≡ select (matches lo hi) (listAt L s (nested M′) q)
         unfolding range
-        range-root = ap (select (matches lo hi)) (list-root L M s n certified-accepts z q t)
+        range-root = ap (select (matches lo hi)) (list-root L M s n certified-accepts z q t within)
 
         pub range-gives : rangeCall L M s lo hi ks vs ≡ gives (record { written = w; matching = m })
         range-gives = range-answers _ range-root m em ks′ vs′ w ew

@@ -9,7 +9,7 @@ use lib.ListN.{length, getD}
 use Rattle.format.specs.declared.Child.{Child}
 use Rattle.format.specs.declared.Position.{Position}
 use Rattle.format.specs.declared.Child.the-variants.{At}
-use Rattle.format.specs.Layout.{Layout, leafSize, innerSize, Limits, nested}
+use Rattle.format.specs.Layout.{Layout, leafSize, innerSize, Limits, Within, nested}
 use Rattle.format.specs.RelPtr.{at, target, absent}
 use Rattle.format.specs.Node.{Kind, leaf, inner, kindOf, child, kind}
 use Rattle.format.specs.Check.{root}
@@ -19,6 +19,7 @@ use Rattle.format.specs.Lookup.{lookupBody, lookupAt}
 use Rattle.format.specs.Accepted.{Rooted, Archive}
 use Rattle.format.specs.Readable.{LeadsTo, Down, LeafNode, InnerNode, NodeGood, leafG, innerG, Good, Node, childAt}
 use Rattle.format.specs.NodeRelation.{ChildOk, gone, there, ChildrenOk, last, more, NodeOk, leafOk, innerOk, Holds}
+use Rattle.format.specs.Laws.Numbers.Limits.{nested-within}
 use Rattle.format.specs.Laws.Read.Children.{child-leads, Agree, list-ext, look-ext, hollowBody, any-ext}
 use Rattle.format.specs.Laws.Check.Reach.{true≢false, inside, Nth, this, next, nth-of}
 
@@ -166,3 +167,28 @@ module _ (L : Layout) (M : Limits) (s : List ℕ) where
       let z : d .node ≡ q .0 = cc (d .leads, l .leads) in
       let w = d .lower in
       (omega arith, node-below N (n .is) i (q .0) le l)
+
+-- ---- limits that are nowhere below give the same node, with the same list, lookup and hollow nodes
+
+module _ (L : Layout) {M M′ : Limits} (w : Within M M′) (s : List ℕ) {p : ℕ} (N : Node L M s p) where
+  fits-within : N .level ≤ nested M′
+  fits-within = omega (arith, N .fits, nested-within w)
+
+  pub node-within : Node L M′ s p
+  node-within = record { level = N .level; fits = fits-within; good = N .good }
+
+  pub list-within : listAt L s (nested M) p ≡ listAt L s (nested M′) p
+  unfolding listAt
+  list-within =
+      levels L s (listAt L s) (listBody L s) (λ d p. refl) (list-ext L s) (N .level) p (N .good) (nested M) (nested M′) (N .fits) fits-within
+
+  pub lookup-within : (k : ℕ) → lookupAt L s k (nested M) p ≡ lookupAt L s k (nested M′) p
+  unfolding lookupAt
+  lookup-within k =
+      levels L s (lookupAt L s k) (lookupBody L s k) (λ d p. refl) (look-ext L s k) (N .level) p (N .good) (nested M) (nested M′) (N .fits)
+      fits-within
+
+  pub hollow-within : hollowAt L s (nested M) p ≡ hollowAt L s (nested M′) p
+  unfolding hollowAt hollowBody
+  hollow-within =
+      levels L s (hollowAt L s) (hollowBody L s) (λ d p. refl) (any-ext L s) (N .level) p (N .good) (nested M) (nested M′) (N .fits) fits-within
