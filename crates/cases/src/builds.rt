@@ -10,6 +10,7 @@ use crate::output::print_line;
 use crate::output::print_refused;
 use builder::build::BuildAnswer;
 use format::Layout;
+use format::Limits;
 ghost use mathlib.Core.Path.{_≡_};
 ghost use lib.ListN.{length, replicate};
 
@@ -31,7 +32,7 @@ fn room() -> [u64; 40002]
 
 fn print_certified(layout: Layout, archive: &[u8]) {
     print(b"certify ");
-    print_checked(fieldmap::certify(layout, archive));
+    print_checked(fieldmap::certify(layout, Limits::SERVER, archive));
 }
 
 fn print_length(layout: Layout, entries: usize, header: usize) {

@@ -4,6 +4,7 @@ use fields::primitive::u64_at;
 use fields::twos::signed8;
 use format::Bound;
 use format::Layout;
+use format::Limits;
 use format::Packing;
 use libc::STDIN_FILENO;
 
@@ -41,6 +42,12 @@ pub fn next_packing() -> Packing {
 pub fn next_layout() -> Layout {
     let bits = next_u8();
     codes::layout(bits, next_u8() as usize)
+}
+
+pub fn next_limits() -> Limits {
+    let longest = next_u64() as usize;
+    let depth = next_u64() as usize;
+    Limits { longest, depth }
 }
 
 // Fills the list with the next numbers.

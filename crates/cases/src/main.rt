@@ -4,10 +4,10 @@
 // The input is a sequence of questions, all numbers little-endian; the archive that is too long for it stands in archives.rt. A question
 // starts with its kind in one byte, and 0 or the end of the input ends the sequence:
 //
-// 1  an archive: its layout in two bytes, its length in four bytes and the archive, at most 65,536 bytes; the number of keys to look up in four
-//    bytes and the keys; the number of ranges in four bytes and of each the lower and the upper bound, a kind in one byte (0 included, 1
-//    excluded, 2 unbounded) and a key; the number of column queries in four bytes and of each packing, examination, eye, a and b in 1, 4, 1,
-//    1 and 1 bytes
+// 1  an archive: its layout in two bytes, the longest archive and the depth of the limits in eight bytes each, its length in four bytes and the archive,
+//    at most 65,536 bytes; the number of keys to look up in four bytes and the keys; the number of ranges in four bytes and of each the lower and the
+//    upper bound, a kind in one byte (0 included, 1 excluded, 2 unbounded) and a key; the number of column queries in four bytes and of each packing,
+//    examination, eye, a and b in 1, 4, 1, 1 and 1 bytes
 // 2  a build: the layout in two bytes, the header's length in eight bytes, the output's in four, and two lists, each its length in four bytes,
 //    its form in one byte, and the numbers (form 0) or the first number and the step from one to the next (form 1)
 // 3  a signed difference: two positions     4  a 32-bit offset: two positions     5  an absent offset: a position

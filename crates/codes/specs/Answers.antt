@@ -15,7 +15,7 @@ use Rattle.format.specs.declared.Width.{Width}
 use Rattle.format.specs.declared.Width.the-variants.{Two, Four, Eight}
 use Rattle.format.specs.declared.Found.{Found}
 use Rattle.format.specs.declared.Found.the-variants.{Entry as found, Nothing as nothing}
-use Rattle.format.specs.Layout.{Layout, widthOf}
+use Rattle.format.specs.Layout.{Layout, widthOf, Limits, countsAs}
 use Rattle.format.specs.Refusal.{Answer, gives, refuses}
 use Rattle.format.specs.Align.{Step}
 use Rattle.format.specs.Calls.{Walk, Matched}
@@ -108,3 +108,7 @@ widthBy n = elim (eqb n 16) [ true ↦ Two | false ↦ elim (eqb n 64) [ true �
 -- A layout by the width's bits and the entries a node.
 abbrev pub layoutBy : ℕ → ℕ → Layout
 layoutBy bits e = record { width = widthOf (widthBy bits); entries = e }
+
+-- Limits by the longest archive in bytes and the depth: what they count as.
+abbrev pub limitsBy : ℕ → ℕ → Limits
+limitsBy longest depth = countsAs (record { longest = longest; depth = depth })

@@ -2,17 +2,19 @@
 use codes::bound;
 use codes::given;
 use codes::refused;
+use format::Limits;
 use readers::RangeAnswer;
 ghost use mathlib.Core.Path.{_≡_};
-ghost use Rattle.format.specs.Layout.{server};
 ghost use Rattle.format.specs.Calls.{rangeCall, rangeKeys, rangeValues, columnCall, columnKeys, columnValues};
-ghost use Rattle.codes.specs.Answers.{coded, Tells, layoutBy, stored, boundOf, packingOf, rangeWritten, rangeMatching};
+ghost use Rattle.codes.specs.Answers.{coded, Tells, layoutBy, limitsBy, stored, boundOf, packingOf, rangeWritten, rangeMatching};
 
 // Writes keys and values of the entries that meet both bounds until the shorter list is full, and stores how many there are. The number written.
 #[no_mangle]
 pub extern "C" fn fieldmap_range(
     width: u8,
     entries: usize,
+    longest: usize,
+    depth: usize,
     archive: &[u8],
     lower_kind: u8,
     lower: u64,
@@ -23,18 +25,19 @@ pub extern "C" fn fieldmap_range(
     matching: &mut u64,
 ) -> i64
     ensures answer { λ r. ⌜ r ≡ coded rangeWritten
-        (rangeCall (layoutBy width entries) server (now (archive .entry)) (boundOf «lower_kind» lower) (boundOf «upper_kind» upper)
+        (rangeCall (layoutBy width entries) (limitsBy longest depth) (now (archive .entry)) (boundOf «lower_kind» lower) (boundOf «upper_kind» upper)
         (now (keys .entry)) (now (values .entry))) ⌝ }
-    ensures told { λ r. ⌜ Tells r (rangeCall (layoutBy width entries) server (now (archive .entry)) (boundOf «lower_kind» lower) (boundOf «upper_kind» upper)
+    ensures told { λ r. ⌜ Tells r
+        (rangeCall (layoutBy width entries) (limitsBy longest depth) (now (archive .entry)) (boundOf «lower_kind» lower) (boundOf «upper_kind» upper)
         (now (keys .entry)) (now (values .entry))) ⌝ }
     ensures keys { λ r. ⌜ now (keys .exit)
-        ≡ rangeKeys (layoutBy width entries) server (now (archive .entry)) (boundOf «lower_kind» lower) (boundOf «upper_kind» upper)
+        ≡ rangeKeys (layoutBy width entries) (limitsBy longest depth) (now (archive .entry)) (boundOf «lower_kind» lower) (boundOf «upper_kind» upper)
         (now (keys .entry)) (now (values .entry)) ⌝ }
     ensures values { λ r. ⌜ now (values .exit)
-        ≡ rangeValues (layoutBy width entries) server (now (archive .entry)) (boundOf «lower_kind» lower) (boundOf «upper_kind» upper)
+        ≡ rangeValues (layoutBy width entries) (limitsBy longest depth) (now (archive .entry)) (boundOf «lower_kind» lower) (boundOf «upper_kind» upper)
         (now (keys .entry)) (now (values .entry)) ⌝ }
     ensures matching { λ r. ⌜ now (matching .exit) ≡ stored rangeMatching
-        (rangeCall (layoutBy width entries) server (now (archive .entry)) (boundOf «lower_kind» lower) (boundOf «upper_kind» upper)
+        (rangeCall (layoutBy width entries) (limitsBy longest depth) (now (archive .entry)) (boundOf «lower_kind» lower) (boundOf «upper_kind» upper)
         (now (keys .entry)) (now (values .entry)))
         (now (matching .entry)) ⌝ }
 {
@@ -42,6 +45,7 @@ pub extern "C" fn fieldmap_range(
     let to = bound(upper_kind, upper);
     match fieldmap::range(
         codes::layout(width, entries),
+        Limits { longest, depth },
         archive,
         from,
         to,
@@ -61,6 +65,8 @@ pub extern "C" fn fieldmap_range(
 pub extern "C" fn fieldmap_column(
     width: u8,
     entries: usize,
+    longest: usize,
+    depth: usize,
     archive: &[u8],
     packing: u8,
     examination: u32,
@@ -72,25 +78,26 @@ pub extern "C" fn fieldmap_column(
     matching: &mut u64,
 ) -> i64
     ensures answer { λ r. ⌜ r ≡ coded rangeWritten
-        (columnCall (layoutBy width entries) server (now (archive .entry)) (packingOf packing) examination eye a b
+        (columnCall (layoutBy width entries) (limitsBy longest depth) (now (archive .entry)) (packingOf packing) examination eye a b
         (now (keys .entry)) (now (values .entry))) ⌝ }
     ensures told { λ r. ⌜ Tells r
-        (columnCall (layoutBy width entries) server (now (archive .entry)) (packingOf packing) examination eye a b
+        (columnCall (layoutBy width entries) (limitsBy longest depth) (now (archive .entry)) (packingOf packing) examination eye a b
         (now (keys .entry)) (now (values .entry))) ⌝ }
     ensures keys { λ r. ⌜ now (keys .exit)
-        ≡ columnKeys (layoutBy width entries) server (now (archive .entry)) (packingOf packing) examination eye a b
+        ≡ columnKeys (layoutBy width entries) (limitsBy longest depth) (now (archive .entry)) (packingOf packing) examination eye a b
         (now (keys .entry)) (now (values .entry)) ⌝ }
     ensures values { λ r. ⌜ now (values .exit)
-        ≡ columnValues (layoutBy width entries) server (now (archive .entry)) (packingOf packing) examination eye a b
+        ≡ columnValues (layoutBy width entries) (limitsBy longest depth) (now (archive .entry)) (packingOf packing) examination eye a b
         (now (keys .entry)) (now (values .entry)) ⌝ }
     ensures matching { λ r. ⌜ now (matching .exit) ≡ stored rangeMatching
-        (columnCall (layoutBy width entries) server (now (archive .entry)) (packingOf packing) examination eye a b
+        (columnCall (layoutBy width entries) (limitsBy longest depth) (now (archive .entry)) (packingOf packing) examination eye a b
         (now (keys .entry)) (now (values .entry)))
         (now (matching .entry)) ⌝ }
 {
     let by = codes::packing(packing);
     match fieldmap::column(
         codes::layout(width, entries),
+        Limits { longest, depth },
         archive,
         by,
         examination,

@@ -1,10 +1,12 @@
-// The calls of the archived field map. Any bytes, lists, positions, lengths and layouts may be passed: each call answers, or gives a listed refusal and
-// leaves what was lent as it was. An archive is built, checked and read at the layout that the caller names: the width of its offsets and counts, and the
-// entries a node. Outside 3 to 15 of them every such call is refused by 24.
+// The calls of the archived field map. Any bytes, lists, positions, lengths, layouts and limits may be passed: each call answers, or gives a listed
+// refusal and leaves what was lent as it was. An archive is built, checked and read at the layout that the caller names: the width of its offsets and
+// counts, and the entries a node. Outside 3 to 15 of them every such call is refused by 24. It is checked and read under limits that the caller names:
+// its longest length, for refusal 1, and the depth of its nodes, for 5.
 use builder::build::BuildAnswer;
 use format::Bound;
 use format::CheckAnswer;
 use format::Layout;
+use format::Limits;
 use format::Packing;
 use format::Refusal;
 use offsets::rel_ptr::Distance;
@@ -20,7 +22,7 @@ use readers::WalkAnswer;
 ghost use mathlib.Core.Path.{_≡_};
 ghost use lib.ListN.{length};
 ghost use denote.Ref.{ptr};
-ghost use Rattle.format.specs.Layout.{layoutOf, server};
+ghost use Rattle.format.specs.Layout.{layoutOf, limitsOf};
 ghost use Rattle.format.specs.Refusal.{checkOf, number};
 ghost use Rattle.format.specs.RelPtr.{signedOffset, storedOffset, absentOffset};
 ghost use Rattle.format.specs.Align.{alignStep};
@@ -36,48 +38,57 @@ ghost use Rattle.perimetry.specs.Answers.{packedOf, unpackedOf};
 ghost use Rattle.readers.specs.Answers.{lookupOf, walkOf, rangeOf};
 
 // The recorded count, or 24, or the first fault of 1 to 7.
-pub fn check(layout: Layout, archive: &[u8]) -> CheckAnswer
-    ensures { λ r. ⌜ checkOf r ≡ counted (checkArchive (layoutOf layout) server (now (archive .entry))) ⌝ }
+pub fn check(layout: Layout, limits: Limits, archive: &[u8]) -> CheckAnswer
+    ensures { λ r. ⌜ checkOf r ≡ counted (checkArchive (layoutOf layout) (limitsOf limits) (now (archive .entry))) ⌝ }
 {
-    validation::check::check(archive, layout)
+    validation::check::check(archive, layout, limits)
 }
 
 // The recorded count, or 24, or the first fault of 1 to 9.
-pub fn certify(layout: Layout, archive: &[u8]) -> CheckAnswer
-    ensures { λ r. ⌜ checkOf r ≡ counted (certify (layoutOf layout) server (now (archive .entry))) ⌝ }
+pub fn certify(layout: Layout, limits: Limits, archive: &[u8]) -> CheckAnswer
+    ensures { λ r. ⌜ checkOf r ≡ counted (certify (layoutOf layout) (limitsOf limits) (now (archive .entry))) ⌝ }
 {
-    readers::certify(archive, layout)
+    readers::certify(archive, layout, limits)
 }
 
 // The entry that rkyv's search finds. On a certified archive it is the list's with that key, or there is none; on one that is only accepted the
 // search can miss an entry that the walk shows.
-pub fn lookup(layout: Layout, archive: &[u8], key: u64) -> LookupAnswer
-    ensures { λ r. ⌜ lookupOf r ≡ lookupCall (layoutOf layout) server (now (archive .entry)) key ⌝ }
+pub fn lookup(layout: Layout, limits: Limits, archive: &[u8], key: u64) -> LookupAnswer
+    ensures { λ r. ⌜ lookupOf r ≡ lookupCall (layoutOf layout) (limitsOf limits) (now (archive .entry)) key ⌝ }
 {
-    readers::lookup(archive, layout, key)
+    readers::lookup(archive, layout, limits, key)
 }
 
 // The eight bytes of the value that a lookup finds, as a part of the archive; where it finds none or the archive is refused, the empty part at its
 // start.
-pub fn lookup_bytes<'a>(layout: Layout, archive: &'a [u8], key: u64) -> &'a [u8]
-    ensures place { λ r. ⌜ ptr r ≡ placeCall (layoutOf layout) server (now (archive .entry)) (ptr (archive .entry)) key ⌝ }
-    ensures bytes { λ r. ⌜ now r ≡ bytesCall (layoutOf layout) server (now (archive .entry)) key ⌝ }
+pub fn lookup_bytes<'a>(layout: Layout, limits: Limits, archive: &'a [u8], key: u64) -> &'a [u8]
+    ensures place { λ r. ⌜ ptr r ≡ placeCall (layoutOf layout) (limitsOf limits) (now (archive .entry)) (ptr (archive .entry)) key ⌝ }
+    ensures bytes { λ r. ⌜ now r ≡ bytesCall (layoutOf layout) (limitsOf limits) (now (archive .entry)) key ⌝ }
 {
-    readers::lookup_bytes(archive, layout, key)
+    readers::lookup_bytes(archive, layout, limits, key)
 }
 
 // Writes keys and values in the order of `visit` until the shorter list is full.
-pub fn walk(layout: Layout, archive: &[u8], keys: &mut [u64], values: &mut [u64]) -> WalkAnswer
-    ensures answer { λ r. ⌜ walkOf r ≡ walkCall (layoutOf layout) server (now (archive .entry)) (now (keys .entry)) (now (values .entry)) ⌝ }
-    ensures keys { λ r. ⌜ now (keys .exit) ≡ walkKeys (layoutOf layout) server (now (archive .entry)) (now (keys .entry)) (now (values .entry)) ⌝ }
-    ensures values { λ r. ⌜ now (values .exit) ≡ walkValues (layoutOf layout) server (now (archive .entry)) (now (keys .entry)) (now (values .entry)) ⌝ }
+pub fn walk(
+    layout: Layout,
+    limits: Limits,
+    archive: &[u8],
+    keys: &mut [u64],
+    values: &mut [u64],
+) -> WalkAnswer
+    ensures answer { λ r. ⌜ walkOf r ≡ walkCall (layoutOf layout) (limitsOf limits) (now (archive .entry)) (now (keys .entry)) (now (values .entry)) ⌝ }
+    ensures keys { λ r. ⌜ now (keys .exit)
+        ≡ walkKeys (layoutOf layout) (limitsOf limits) (now (archive .entry)) (now (keys .entry)) (now (values .entry)) ⌝ }
+    ensures values { λ r. ⌜ now (values .exit)
+        ≡ walkValues (layoutOf layout) (limitsOf limits) (now (archive .entry)) (now (keys .entry)) (now (values .entry)) ⌝ }
 {
-    readers::walk(archive, layout, keys, values)
+    readers::walk(archive, layout, limits, keys, values)
 }
 
 // Of a certified archive, writes keys and values of the entries that meet both bounds until the shorter list is full, and counts them all.
 pub fn range(
     layout: Layout,
+    limits: Limits,
     archive: &[u8],
     lower: Bound,
     upper: Bound,
@@ -85,13 +96,13 @@ pub fn range(
     values: &mut [u64],
 ) -> RangeAnswer
     ensures answer { λ r. ⌜ rangeOf r
-        ≡ rangeCall (layoutOf layout) server (now (archive .entry)) lower upper (now (keys .entry)) (now (values .entry)) ⌝ }
+        ≡ rangeCall (layoutOf layout) (limitsOf limits) (now (archive .entry)) lower upper (now (keys .entry)) (now (values .entry)) ⌝ }
     ensures keys { λ r. ⌜ now (keys .exit)
-        ≡ rangeKeys (layoutOf layout) server (now (archive .entry)) lower upper (now (keys .entry)) (now (values .entry)) ⌝ }
+        ≡ rangeKeys (layoutOf layout) (limitsOf limits) (now (archive .entry)) lower upper (now (keys .entry)) (now (values .entry)) ⌝ }
     ensures values { λ r. ⌜ now (values .exit)
-        ≡ rangeValues (layoutOf layout) server (now (archive .entry)) lower upper (now (keys .entry)) (now (values .entry)) ⌝ }
+        ≡ rangeValues (layoutOf layout) (limitsOf limits) (now (archive .entry)) lower upper (now (keys .entry)) (now (values .entry)) ⌝ }
 {
-    readers::range(archive, layout, lower, upper, keys, values)
+    readers::range(archive, layout, limits, lower, upper, keys, values)
 }
 
 // The range of a column query, for one eye of one examination, by the packing of the archive's keys. Of keys that store x plus 128, the entries with x
@@ -99,6 +110,7 @@ pub fn range(
 // b is not, none; where b is below 0 and a is not, those with x from a on and those with x up to b.
 pub fn column(
     layout: Layout,
+    limits: Limits,
     archive: &[u8],
     packing: Packing,
     examination: u32,
@@ -109,20 +121,20 @@ pub fn column(
     values: &mut [u64],
 ) -> RangeAnswer
     ensures answer { λ r. ⌜ rangeOf r
-        ≡ columnCall (layoutOf layout) server (now (archive .entry)) packing examination eye a b (now (keys .entry)) (now (values .entry)) ⌝ }
+        ≡ columnCall (layoutOf layout) (limitsOf limits) (now (archive .entry)) packing examination eye a b (now (keys .entry)) (now (values .entry)) ⌝ }
     ensures keys { λ r. ⌜ now (keys .exit)
-        ≡ columnKeys (layoutOf layout) server (now (archive .entry)) packing examination eye a b (now (keys .entry)) (now (values .entry)) ⌝ }
+        ≡ columnKeys (layoutOf layout) (limitsOf limits) (now (archive .entry)) packing examination eye a b (now (keys .entry)) (now (values .entry)) ⌝ }
     ensures values { λ r. ⌜ now (values .exit)
-        ≡ columnValues (layoutOf layout) server (now (archive .entry)) packing examination eye a b (now (keys .entry)) (now (values .entry)) ⌝ }
+        ≡ columnValues (layoutOf layout) (limitsOf limits) (now (archive .entry)) packing examination eye a b (now (keys .entry)) (now (values .entry)) ⌝ }
 {
     match column_bounds(packing, examination, eye, a, b) {
         Columns::Bounds(c) => {
             let lower = c.lower;
             let upper = c.upper;
-            range(layout, archive, lower, upper, keys, values)
+            range(layout, limits, archive, lower, upper, keys, values)
         }
         Columns::Refused(why) => {
-            if let CheckAnswer::Refused(first) = certify(layout, archive) {
+            if let CheckAnswer::Refused(first) = certify(layout, limits, archive) {
                 return RangeAnswer::Refused(first);
             }
             RangeAnswer::Refused(why)

@@ -2,6 +2,7 @@
 // entry of the walk, key and value on a line. More than 65,536 bytes are refused. The text is `printed` of specs/Listing.antt.
 use format::CheckAnswer;
 use format::Layout;
+use format::Limits;
 use readers::WalkAnswer;
 use text::put;
 use text::put_decimal;
@@ -32,10 +33,14 @@ enum Title {
 fn title_of(archive: &[u8]) -> Title
     ensures { λ r. ⌜ r ≡ title (now (archive .entry)) ⌝ }
 {
-    if let CheckAnswer::Accepted(count) = fieldmap::certify(Layout::COMMON, archive) {
+    if let CheckAnswer::Accepted(count) = fieldmap::certify(
+        Layout::COMMON,
+        Limits::SERVER,
+        archive,
+    ) {
         return Title::Certified(count as u64);
     }
-    match fieldmap::check(Layout::COMMON, archive) {
+    match fieldmap::check(Layout::COMMON, Limits::SERVER, archive) {
         CheckAnswer::Accepted(count) => Title::Open(count as u64),
         CheckAnswer::Refused(why) => Title::Refused(fieldmap::refusal_number(why)),
     }
@@ -106,7 +111,13 @@ fn put_listing(text: &mut [u8], archive: &[u8]) -> usize
     let mut keys = [0u64; MOST_ENTRIES];
     let mut values = [0u64; MOST_ENTRIES];
     let end = put_title(text, title_of(archive));
-    match fieldmap::walk(Layout::COMMON, archive, &mut keys, &mut values) {
+    match fieldmap::walk(
+        Layout::COMMON,
+        Limits::SERVER,
+        archive,
+        &mut keys,
+        &mut values,
+    ) {
         WalkAnswer::Refused(_) => end,
         WalkAnswer::Walked(written, _) => put_entries(text, end, &keys, &values, written),
     }

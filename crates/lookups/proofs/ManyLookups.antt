@@ -8,12 +8,12 @@ use lib.ListN.{length, getD, set}
 use Rattle.format.specs.declared.Entry.{Entry}
 use Rattle.format.specs.declared.Found.{Found}
 use Rattle.format.specs.declared.Found.the-variants.{Entry as found, Nothing as nothing}
-use Rattle.format.specs.Layout.{Layout, Limits, nested, recordSize}
+use Rattle.format.specs.Layout.{Layout, Limits, Within, nested, recordSize}
 use Rattle.format.specs.Refusal.{gives, refuses}
 use Rattle.format.specs.RelPtr.{at, target}
 use Rattle.format.specs.Check.{Checked, accepted, refused, counted, checkArchive}
 use Rattle.format.specs.Lookup.{lookup, lookupAt}
-use Rattle.format.specs.Laws.Calls.Accepted.{gives-inv, refuses-inv, lookup-accepted, lookup-none, lookup-gives}
+use Rattle.format.specs.Laws.Calls.Accepted.{gives-inv, refuses-inv, lookup-accepted, lookup-none, lookup-root}
 use Rattle.lookups.specs.Many.{Many, many, store, firstMany, sought, allMany, manyCall, manyValues}
 
 -- ---- one key
@@ -129,13 +129,10 @@ module _ (L : Layout) (M : Limits) (s : List ℕ) where
       pub many-values-none : manyValues L M s ks vs ≡ vs
       many-values-none = leaves (λ k. nothing) nowhere vs 0 (sym (none-found ks vs (sought ks vs)))
 
-    module _ (z : n ≡ 0 → ⊥) (q : ℕ) (t : target L s (length s - recordSize L) ≡ at q) (us : List ℕ) (m : ℕ)
-        (w : many us m ≡ allMany (λ k. lookupAt L s k (nested M) q) ks vs) where
-      from-root : (k : ℕ) → lookup L M s k ≡ lookupAt L s k (nested M) q
-      from-root k = gives-one _ _ (sym (lookup-accepted L M s n e k) ∙ lookup-gives L M s n e z q t k (lookupAt L s k (nested M) q) refl)
-
+    module _ (z : n ≡ 0 → ⊥) (q : ℕ) (t : target L s (length s - recordSize L) ≡ at q) {M′ : Limits} (within : Within M M′) (us : List ℕ) (m : ℕ)
+        (w : many us m ≡ allMany (λ k. lookupAt L s k (nested M′) q) ks vs) where
       pub many-gives : manyCall L M s ks vs ≡ gives m
-      many-gives = answers (λ k. lookupAt L s k (nested M) q) from-root us m w
+      many-gives = answers (λ k. lookupAt L s k (nested M′) q) (lookup-root L M s n e z q t within) us m w
 
       pub many-values-gives : manyValues L M s ks vs ≡ us
-      many-values-gives = leaves (λ k. lookupAt L s k (nested M) q) from-root us m w
+      many-values-gives = leaves (λ k. lookupAt L s k (nested M′) q) (lookup-root L M s n e z q t within) us m w

@@ -5,7 +5,7 @@ use fields::primitive::u32_at;
 use fields::primitive::u64_at;
 use fields::primitive::uint_at;
 use format::Layout;
-use format::Limits;
+use format::Server;
 use offsets::rel_ptr::ones;
 use quick::Passed;
 use quick::quick_node;
@@ -223,10 +223,13 @@ pub fn inner_root(archive: &[u8], layout: Layout, at: usize) -> usize
 
 // The entries of the inner node to which the record's field leads and of all below it, or 0. The common layout goes on with constants.
 pub fn quick_root(archive: &[u8], layout: Layout, at: usize, depth: usize) -> usize
-    requires { ⌜ (layout .entries ≤ 15) × (at + pointer (layoutOf layout) ≤ length (now archive)) × (0 < depth) ⌝ }
+    requires { ⌜ (layout .entries ≤ 15) × (at + pointer (layoutOf layout) ≤ length (now archive)) ⌝ }
     ensures { λ r. ⌜ (0 < r → Root (layoutOf layout) (now (archive .entry)) depth at r) ⌝ }
 {
-    if archive.len() > Limits::LONGEST {
+    if depth == 0 {
+        return 0;
+    }
+    if archive.len() > Server::LONGEST {
         return 0;
     }
     let p = inner_root(archive, layout, at);

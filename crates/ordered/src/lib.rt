@@ -4,12 +4,11 @@ use fields::primitive::u32_at;
 use fields::primitive::u64_at;
 use format::Common;
 use format::Layout;
-use format::Limits;
 ghost use mathlib.Core.Path.{_≡_};
 ghost use mathlib.Core.Bool.{true, false};
 ghost use Prim.Native.Nat.{_+_, _*_, _≤_, _<_};
 ghost use lib.ListN.{length};
-ghost use Rattle.format.specs.Layout.{layout32, server, pointer, keysFrom, headSize, leafSize, innerSize};
+ghost use Rattle.format.specs.Layout.{layout32, Limits as GivenLimits, server, pointer, keysFrom, headSize, leafSize, innerSize};
 ghost use Rattle.format.specs.Refusal.{gives};
 ghost use Rattle.format.specs.Check.{counted};
 ghost use Rattle.format.specs.Certify.{certify};
@@ -181,14 +180,13 @@ fn node_keys(
     Keys { entries, last }
 }
 
-// The recorded count of an archive at the common layout that is certified, or 0.
-pub fn root_keys(archive: &[u8]) -> usize
-    ensures { λ r. ⌜ (0 < r → counted (certify layout32 server (now (archive .entry))) ≡ gives r) ⌝ }
+// The recorded count of an archive at the common layout that is certified under limits of this depth, or 0.
+pub fn root_keys(archive: &[u8], depth: usize) -> usize
+    requires { ⌜ (2 < depth) × (length (now archive) ≤ server .longest) ⌝ }
+    ensures { λ r. ⌜ ((M : GivenLimits) → M .depth ≡ depth → length (now (archive .entry)) ≤ M .longest
+        → 0 < r → counted (certify layout32 M (now (archive .entry))) ≡ gives r) ⌝ }
 {
     let length = archive.len();
-    if length > Limits::LONGEST {
-        return 0;
-    }
     if length < Common::RECORD {
         return 0;
     }
@@ -210,7 +208,7 @@ pub fn root_keys(archive: &[u8]) -> usize
     if archive[p] != 1 {
         return 0;
     }
-    let root = node_keys(archive, 0, p, Limits::DEPTH - 3, 0, 0);
+    let root = node_keys(archive, 0, p, depth - 3, 0, 0);
     let count = u32_at(archive, at + Common::POINTER) as usize;
     if root.entries != count {
         return 0;

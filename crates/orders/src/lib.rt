@@ -17,7 +17,7 @@ ghost use mathlib.Core.Path.{_≡_};
 ghost use mathlib.Core.Bool.{true};
 ghost use Prim.Native.Nat.{_+_, _*_, _≤_, _<_};
 ghost use lib.ListN.{length};
-ghost use Rattle.format.specs.Layout.{layoutOf, server, keysFrom, bytes, leafSize, innerSize};
+ghost use Rattle.format.specs.Layout.{layoutOf, Limits as GivenLimits, limitsOf, keysFrom, bytes, leafSize, innerSize};
 ghost use Rattle.format.specs.Refusal.{gives};
 ghost use Rattle.format.specs.Check.{counted};
 ghost use Rattle.format.specs.Certify.{certify};
@@ -174,15 +174,13 @@ fn node_by(
 }
 
 // As `root_keys`.
-fn root_by(archive: &[u8], layout: Layout) -> usize
-    requires { ⌜ (3 ≤ layout .entries) × (layout .entries ≤ 15) ⌝ }
-    ensures { λ r. ⌜ (0 < r → counted (certify (layoutOf layout) server (now (archive .entry))) ≡ gives r) ⌝ }
+fn root_by(archive: &[u8], layout: Layout, depth: usize) -> usize
+    requires { ⌜ (3 ≤ layout .entries) × (layout .entries ≤ 15) × (2 < depth) ⌝ }
+    ensures { λ r. ⌜ ((M : GivenLimits) → M .depth ≡ depth → length (now (archive .entry)) ≤ M .longest
+        → 0 < r → counted (certify (layoutOf layout) M (now (archive .entry))) ≡ gives r) ⌝ }
 {
     let length = archive.len();
     let record = layout.record();
-    if length > Limits::LONGEST {
-        return 0;
-    }
     if length < record {
         return 0;
     }
@@ -197,17 +195,7 @@ fn root_by(archive: &[u8], layout: Layout) -> usize
     }
     let width = layout.width;
     let all = ones(width) as usize;
-    let root = node_by(
-        archive,
-        w,
-        layout.entries,
-        all,
-        0,
-        p,
-        Limits::DEPTH - 3,
-        0,
-        0,
-    );
+    let root = node_by(archive, w, layout.entries, all, 0, p, depth - 3, 0, 0);
     let count = uint_at(archive, at + w, width) as usize;
     if root.entries != count {
         return 0;
@@ -215,15 +203,22 @@ fn root_by(archive: &[u8], layout: Layout) -> usize
     count
 }
 
-// The recorded count of an archive that is certified, or 0.
-pub fn quick_certify(archive: &[u8], layout: Layout) -> usize
-    ensures { λ r. ⌜ (0 < r → counted (certify (layoutOf layout) server (now (archive .entry))) ≡ gives r) ⌝ }
+// The recorded count of an archive that is certified, or 0. With a depth under 3 no inner node may stand below the record.
+pub fn quick_certify(archive: &[u8], layout: Layout, limits: Limits) -> usize
+    ensures { λ r. ⌜ (0 < r → counted (certify (layoutOf layout) (limitsOf limits) (now (archive .entry))) ≡ gives r) ⌝ }
 {
+    let most = limits.counted();
+    if archive.len() > most.longest {
+        return 0;
+    }
+    if most.depth < 3 {
+        return 0;
+    }
     if layout.is_common() {
-        return root_keys(archive);
+        return root_keys(archive, most.depth);
     }
     if layout.in_range() {
-        return root_by(archive, layout);
+        return root_by(archive, layout, most.depth);
     }
     0
 }

@@ -1,10 +1,11 @@
-// The readers of a whole archive, at a layout: each checks or certifies it first.
+// The readers of a whole archive, at a layout and under limits: each checks or certifies it first.
 use fields::primitive::uint_at;
 use format::Bound;
 use format::CheckAnswer;
 use format::Entry;
 use format::Found;
 use format::Layout;
+use format::Limits;
 use format::Position;
 use format::Refusal;
 use offsets::rel_ptr::ones;
@@ -13,7 +14,7 @@ ghost use mathlib.Core.Path.{_≡_};
 ghost use Prim.Native.Nat.{_-_, _≤_};
 ghost use lib.ListN.{length};
 ghost use denote.Ref.{ptr};
-ghost use Rattle.format.specs.Layout.{layoutOf, server, recordSize};
+ghost use Rattle.format.specs.Layout.{layoutOf, limitsOf, recordSize};
 ghost use Rattle.format.specs.Refusal.{checkOf};
 ghost use Rattle.format.specs.RelPtr.{at, target};
 ghost use Rattle.format.specs.Check.{counted};
@@ -61,10 +62,10 @@ fn root_of(archive: &[u8], layout: Layout) -> Position
 }
 
 // The check, and then what certification asks beyond it.
-fn certify_checked(archive: &[u8], layout: Layout) -> CheckAnswer
-    ensures { λ r. ⌜ checkOf r ≡ counted (certify (layoutOf layout) server (now (archive .entry))) ⌝ }
+fn certify_checked(archive: &[u8], layout: Layout, limits: Limits) -> CheckAnswer
+    ensures { λ r. ⌜ checkOf r ≡ counted (certify (layoutOf layout) (limitsOf limits) (now (archive .entry))) ⌝ }
 {
-    match validation::check::check(archive, layout) {
+    match validation::check::check(archive, layout, limits) {
         CheckAnswer::Refused(why) => CheckAnswer::Refused(why),
         CheckAnswer::Accepted(count) => {
             if count == 0 {
@@ -83,21 +84,21 @@ fn certify_checked(archive: &[u8], layout: Layout) -> CheckAnswer
 }
 
 // The recorded count, or 24, or the first fault of 1 to 9. Where the quick way knows the count, nothing is left to ask.
-pub fn certify(archive: &[u8], layout: Layout) -> CheckAnswer
-    ensures { λ r. ⌜ checkOf r ≡ counted (certify (layoutOf layout) server (now (archive .entry))) ⌝ }
+pub fn certify(archive: &[u8], layout: Layout, limits: Limits) -> CheckAnswer
+    ensures { λ r. ⌜ checkOf r ≡ counted (certify (layoutOf layout) (limitsOf limits) (now (archive .entry))) ⌝ }
 {
-    let quick = quick_certify(archive, layout);
+    let quick = quick_certify(archive, layout, limits);
     if 0 < quick {
         return CheckAnswer::Accepted(quick);
     }
-    certify_checked(archive, layout)
+    certify_checked(archive, layout, limits)
 }
 
 // The entry that rkyv's search finds.
-pub fn lookup(archive: &[u8], layout: Layout, key: u64) -> LookupAnswer
-    ensures { λ r. ⌜ lookupOf r ≡ lookupCall (layoutOf layout) server (now (archive .entry)) key ⌝ }
+pub fn lookup(archive: &[u8], layout: Layout, limits: Limits, key: u64) -> LookupAnswer
+    ensures { λ r. ⌜ lookupOf r ≡ lookupCall (layoutOf layout) (limitsOf limits) (now (archive .entry)) key ⌝ }
 {
-    match validation::check::check(archive, layout) {
+    match validation::check::check(archive, layout, limits) {
         CheckAnswer::Refused(why) => LookupAnswer::Refused(why),
         CheckAnswer::Accepted(count) => {
             if count == 0 {
@@ -113,11 +114,11 @@ pub fn lookup(archive: &[u8], layout: Layout, key: u64) -> LookupAnswer
 }
 
 // The eight bytes of the value that a lookup finds, as a part of the archive, or the empty part at its start.
-pub fn lookup_bytes<'a>(archive: &'a [u8], layout: Layout, key: u64) -> &'a [u8]
-    ensures place { λ r. ⌜ ptr r ≡ placeCall (layoutOf layout) server (now (archive .entry)) (ptr (archive .entry)) key ⌝ }
-    ensures bytes { λ r. ⌜ now r ≡ bytesCall (layoutOf layout) server (now (archive .entry)) key ⌝ }
+pub fn lookup_bytes<'a>(archive: &'a [u8], layout: Layout, limits: Limits, key: u64) -> &'a [u8]
+    ensures place { λ r. ⌜ ptr r ≡ placeCall (layoutOf layout) (limitsOf limits) (now (archive .entry)) (ptr (archive .entry)) key ⌝ }
+    ensures bytes { λ r. ⌜ now r ≡ bytesCall (layoutOf layout) (limitsOf limits) (now (archive .entry)) key ⌝ }
 {
-    let CheckAnswer::Accepted(count) = validation::check::check(archive, layout) else {
+    let CheckAnswer::Accepted(count) = validation::check::check(archive, layout, limits) else {
         return &archive[0..0];
     };
     if count == 0 {
@@ -127,14 +128,20 @@ pub fn lookup_bytes<'a>(archive: &'a [u8], layout: Layout, key: u64) -> &'a [u8]
 }
 
 // Writes keys and values in the order of `visit` until the shorter list is full.
-pub fn walk(archive: &[u8], layout: Layout, keys: &mut [u64], values: &mut [u64]) -> WalkAnswer
-    ensures answer { λ r. ⌜ walkOf r ≡ walkCall (layoutOf layout) server (now (archive .entry)) (now (keys .entry)) (now (values .entry)) ⌝ }
+pub fn walk(
+    archive: &[u8],
+    layout: Layout,
+    limits: Limits,
+    keys: &mut [u64],
+    values: &mut [u64],
+) -> WalkAnswer
+    ensures answer { λ r. ⌜ walkOf r ≡ walkCall (layoutOf layout) (limitsOf limits) (now (archive .entry)) (now (keys .entry)) (now (values .entry)) ⌝ }
     ensures keys { λ r. ⌜ now (keys .exit)
-        ≡ walkKeys (layoutOf layout) server (now (archive .entry)) (now (keys .entry)) (now (values .entry)) ⌝ }
+        ≡ walkKeys (layoutOf layout) (limitsOf limits) (now (archive .entry)) (now (keys .entry)) (now (values .entry)) ⌝ }
     ensures values { λ r. ⌜ now (values .exit)
-        ≡ walkValues (layoutOf layout) server (now (archive .entry)) (now (keys .entry)) (now (values .entry)) ⌝ }
+        ≡ walkValues (layoutOf layout) (limitsOf limits) (now (archive .entry)) (now (keys .entry)) (now (values .entry)) ⌝ }
 {
-    match validation::check::check(archive, layout) {
+    match validation::check::check(archive, layout, limits) {
         CheckAnswer::Refused(why) => WalkAnswer::Refused(why),
         CheckAnswer::Accepted(count) => {
             if count == 0 {
@@ -148,12 +155,18 @@ pub fn walk(archive: &[u8], layout: Layout, keys: &mut [u64], values: &mut [u64]
 }
 
 // Looks up keys after one check and stores each value that is found at the place of its key.
-pub fn look_up_many(archive: &[u8], layout: Layout, keys: &[u64], values: &mut [u64]) -> ManyAnswer
-    ensures answer { λ r. ⌜ manyOf r ≡ manyCall (layoutOf layout) server (now (archive .entry)) (now (keys .entry)) (now (values .entry)) ⌝ }
+pub fn look_up_many(
+    archive: &[u8],
+    layout: Layout,
+    limits: Limits,
+    keys: &[u64],
+    values: &mut [u64],
+) -> ManyAnswer
+    ensures answer { λ r. ⌜ manyOf r ≡ manyCall (layoutOf layout) (limitsOf limits) (now (archive .entry)) (now (keys .entry)) (now (values .entry)) ⌝ }
     ensures values { λ r. ⌜ now (values .exit)
-        ≡ manyValues (layoutOf layout) server (now (archive .entry)) (now (keys .entry)) (now (values .entry)) ⌝ }
+        ≡ manyValues (layoutOf layout) (limitsOf limits) (now (archive .entry)) (now (keys .entry)) (now (values .entry)) ⌝ }
 {
-    match validation::check::check(archive, layout) {
+    match validation::check::check(archive, layout, limits) {
         CheckAnswer::Refused(why) => ManyAnswer::Refused(why),
         CheckAnswer::Accepted(count) => {
             if count == 0 {
@@ -169,19 +182,20 @@ pub fn look_up_many(archive: &[u8], layout: Layout, keys: &[u64], values: &mut [
 pub fn range(
     archive: &[u8],
     layout: Layout,
+    limits: Limits,
     lower: Bound,
     upper: Bound,
     keys: &mut [u64],
     values: &mut [u64],
 ) -> RangeAnswer
     ensures answer { λ r. ⌜ rangeOf r
-        ≡ rangeCall (layoutOf layout) server (now (archive .entry)) lower upper (now (keys .entry)) (now (values .entry)) ⌝ }
+        ≡ rangeCall (layoutOf layout) (limitsOf limits) (now (archive .entry)) lower upper (now (keys .entry)) (now (values .entry)) ⌝ }
     ensures keys { λ r. ⌜ now (keys .exit)
-        ≡ rangeKeys (layoutOf layout) server (now (archive .entry)) lower upper (now (keys .entry)) (now (values .entry)) ⌝ }
+        ≡ rangeKeys (layoutOf layout) (limitsOf limits) (now (archive .entry)) lower upper (now (keys .entry)) (now (values .entry)) ⌝ }
     ensures values { λ r. ⌜ now (values .exit)
-        ≡ rangeValues (layoutOf layout) server (now (archive .entry)) lower upper (now (keys .entry)) (now (values .entry)) ⌝ }
+        ≡ rangeValues (layoutOf layout) (limitsOf limits) (now (archive .entry)) lower upper (now (keys .entry)) (now (values .entry)) ⌝ }
 {
-    match certify(archive, layout) {
+    match certify(archive, layout, limits) {
         CheckAnswer::Refused(why) => RangeAnswer::Refused(why),
         CheckAnswer::Accepted(count) => {
             if count == 0 {

@@ -18,13 +18,13 @@ use subtrees::node::enter_node;
 use subtrees::node::refused_node;
 use subtrees::node::refused_ptr;
 ghost use mathlib.Core.Path.{_≡_};
-ghost use Prim.Native.Nat.{_-_, _≤_};
+ghost use Prim.Native.Nat.{_-_, _≤_, _<_};
 ghost use lib.ListN.{length};
-ghost use Rattle.format.specs.Layout.{layoutOf, server, recordSize};
+ghost use Rattle.format.specs.Layout.{layoutOf, Limits as GivenLimits, limitsOf, recordSize};
 ghost use Rattle.format.specs.Refusal.{checkOf};
 ghost use Rattle.format.specs.Check.{counted, recorded, checkRoot, checkArchive};
 
-// The record at a position, whose nodes stand in the range.
+// The record at a position, whose nodes stand in the range, where the depth is what the record leaves.
 fn verify(
     archive: &[u8],
     layout: Layout,
@@ -34,9 +34,9 @@ fn verify(
 ) -> CheckAnswer
     requires { ⌜ (layout .entries ≤ 15) × (recordSize (layoutOf layout) ≤ length (now archive))
         × (at .0 ≡ length (now archive) - recordSize (layoutOf layout))
-        × (range .start .0 ≡ 0) × (range .end .0 ≡ at .0) × (depth ≡ server .depth - 1) ⌝ }
-    ensures { λ r. ⌜ checkOf r ≡ counted
-        (checkRoot (layoutOf layout) server (now (archive .entry)) (recorded (layoutOf layout) (now (archive .entry)))) ⌝ }
+        × (range .start .0 ≡ 0) × (range .end .0 ≡ at .0) × (0 < depth) ⌝ }
+    ensures { λ r. ⌜ ((M : GivenLimits) → depth ≡ M .depth - 1 → checkOf r ≡ counted
+        (checkRoot (layoutOf layout) M (now (archive .entry)) (recorded (layoutOf layout) (now (archive .entry))))) ⌝ }
 {
     let from = at.0;
     let width = layout.width;
@@ -68,14 +68,15 @@ fn verify(
 }
 
 // The recorded count, or 24, or the first refusal of 1 to 7.
-pub fn check(archive: &[u8], layout: Layout) -> CheckAnswer
-    ensures { λ r. ⌜ checkOf r ≡ counted (checkArchive (layoutOf layout) server (now (archive .entry))) ⌝ }
+pub fn check(archive: &[u8], layout: Layout, limits: Limits) -> CheckAnswer
+    ensures { λ r. ⌜ checkOf r ≡ counted (checkArchive (layoutOf layout) (limitsOf limits) (now (archive .entry))) ⌝ }
 {
     if !layout.in_range() {
         return CheckAnswer::Refused(Refusal::EntriesOutOfRange);
     }
+    let most = limits.counted();
     let length = archive.len();
-    if length > Limits::LONGEST {
+    if length > most.longest {
         return CheckAnswer::Refused(Refusal::ArchiveTooLong);
     }
     let record = layout.record();
@@ -88,7 +89,7 @@ pub fn check(archive: &[u8], layout: Layout) -> CheckAnswer
     };
     let at = Position(length - record);
     // The record aligns to its offset.
-    let entered = in_subtree(whole, Limits::DEPTH, at, record, layout.pointer());
+    let entered = in_subtree(whole, most.depth, at, record, layout.pointer());
     let PtrAnswer::Inside = entered else {
         return refused_node(refused_ptr(entered));
     };
@@ -96,7 +97,7 @@ pub fn check(archive: &[u8], layout: Layout) -> CheckAnswer
         archive,
         layout,
         push_subtree_range(whole, at),
-        Limits::DEPTH - 1,
+        most.depth - 1,
         at,
     )
 }
