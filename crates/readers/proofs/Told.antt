@@ -8,7 +8,7 @@ use Rattle.format.specs.declared.CheckAnswer.{CheckAnswer}
 use Rattle.format.specs.declared.CheckAnswer.the-variants.{Accepted, Refused}
 use Rattle.format.specs.declared.Refusal.{Refusal}
 use Rattle.format.specs.Refusal.{Answer, gives, refuses, number, checkOf}
-use Rattle.format.specs.Layout.{Layout, server, recordSize}
+use Rattle.format.specs.Layout.{Layout, Limits, recordSize}
 use Rattle.format.specs.Check.{counted, checkArchive}
 use Rattle.format.specs.Readable.{Down}
 use Rattle.format.specs.Laws.Calls.Accepted.{room-for, root-back}
@@ -20,6 +20,6 @@ pub refused-told : {a : Answer ℕ} {r : CheckAnswer} {why : Refusal} → r ≡ 
 refused-told h e = sym e ∙ ap checkOf h
 
 -- The record lies in the archive, and its pointer leads back.
-pub root-requires : (L : Layout) (s : List ℕ) (n : ℕ) → counted (checkArchive L server s) ≡ gives n → (n ≡ 0 → ⊥)
+pub root-requires : (L : Layout) (M : Limits) (s : List ℕ) (n : ℕ) → counted (checkArchive L M s) ≡ gives n → (n ≡ 0 → ⊥)
     → (recordSize L ≤ length s) × Down L s (length s - recordSize L) (length s - recordSize L)
-root-requires L s n accepted some = (room-for L server s n accepted, root-back L server s n accepted some)
+root-requires L M s n accepted some = (room-for L M s n accepted, root-back L M s n accepted some)

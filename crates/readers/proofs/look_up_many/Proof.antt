@@ -1,7 +1,7 @@
 -- `readers::look_up_many` meets its contract. Assumes nothing.
 use mathlib.Core.Path.{sym}
 use borrow.Author.Needs.{needs}
-use Rattle.format.specs.Layout.{server}
+use Rattle.format.specs.Laws.Numbers.Limits.{within-server}
 use Rattle.format.specs.Laws.Calls.Accepted.{entries-few, node}
 use Rattle.lookups.proofs.ManyLookups.{many-refuses, many-values-refuses, many-none, many-values-none, many-gives, many-values-gives}
 use Rattle.readers.proofs.Told.{accepted-told, refused-told, root-requires}
@@ -12,22 +12,24 @@ returns : tie.Need-returns
 returns c =
     let told : tie.After-count = search in
     let accepted = accepted-told (told .count .given .1) (told .before .before .check .ensures) in
-    (sym (many-none _ server _ _ accepted _ _ (search)), sym (many-values-none _ server _ _ accepted _ _ (search)))
+    (sym (many-none _ _ _ _ accepted _ _ (search)), sym (many-values-none _ _ _ _ accepted _ _ (search)))
 
 root-of-requires : tie.Need-root-of-requires
-root-of-requires c κs = root-requires _ _ _ (accepted-told (c .before .before .count .given .1) (search)) (search)
+root-of-requires c κs =
+    let told : tie.After-count = search in
+    root-requires _ _ _ _ (accepted-told (told .count .given .1) (told .before .before .check .ensures)) (search)
 
 look-up-all-requires : tie.Need-look-up-all-requires
 look-up-all-requires c κs =
     let told : tie.After-count = search in
     let accepted = accepted-told (told .count .given .1) (told .before .before .check .ensures) in
-    (entries-few _ server _ _ accepted, node _ server _ _ accepted (search) _ (c .before .root-of .ensures))
+    (entries-few _ _ _ _ accepted, node _ _ _ _ accepted (search) _ (c .before .root-of .ensures) (within-server _))
 
 returns-2 : tie.Need-returns-2
 returns-2 c =
     let told : tie.After-why = search in
     let refused = refused-told (told .why .given .1) (told .before .before .check .ensures) in
-    (sym (many-refuses _ server _ _ refused _ _), sym (many-values-refuses _ server _ _ refused _ _))
+    (sym (many-refuses _ _ _ _ refused _ _), sym (many-values-refuses _ _ _ _ refused _ _))
 
 returns-3 : tie.Need-returns-3
 returns-3 c =
@@ -37,8 +39,8 @@ returns-3 c =
     let accepted = accepted-told (told .count .given .1) (told .before .before .check .ensures) in
     let leads = root .root-of .ensures in
     let looked = call .look-up-all .ensures in (
-      sym (many-gives _ server _ _ accepted _ _ (search) _ leads _ _ looked),
-      sym (many-values-gives _ server _ _ accepted _ _ (search) _ leads _ _ looked),
+      sym (many-gives _ _ _ _ accepted _ _ (search) _ leads (within-server _) _ _ looked),
+      sym (many-values-gives _ _ _ _ accepted _ _ (search) _ leads (within-server _) _ _ looked),
     )
 
 pub look-up-many-spec : {M : Type 1} → statement M

@@ -1,7 +1,7 @@
 -- `readers::lookup_bytes` meets its contract. Assumes nothing.
 use mathlib.Core.Path.{refl, sym, _∙_}
 use native.Mathlib.Omega.{arith}
-use Rattle.format.specs.Layout.{server}
+use Rattle.format.specs.Laws.Numbers.Limits.{within-server}
 use Rattle.format.specs.Laws.Calls.Accepted.{entries-few, node, bytes-refuses, bytes-none, bytes-gives, place-refuses, place-none, place-gives}
 use Rattle.lookups.proofs.Finds.{same-place}
 use borrow.Author.Needs.{needs}
@@ -13,24 +13,26 @@ returns : tie.Need-returns
 returns c =
     let told : tie.After-enum-told = search in
     let refused = refused-told (told .enum-told .given .1) (told .before .before .check .ensures) in
-    (same-place refl (omega arith) ∙ sym (place-refuses _ server _ _ refused _ _), sym (bytes-refuses _ server _ _ refused _))
+    (same-place refl (omega arith) ∙ sym (place-refuses _ _ _ _ refused _ _), sym (bytes-refuses _ _ _ _ refused _))
 
 returns-2 : tie.Need-returns-2
 returns-2 c =
     let told : tie.After-count = search in
     let accepted = accepted-told (told .count .given .1) (told .before .before .check .ensures) in (
-      same-place refl (omega arith) ∙ sym (place-none _ server _ _ accepted (search) _ _),
-      sym (bytes-none _ server _ _ accepted (search) _),
+      same-place refl (omega arith) ∙ sym (place-none _ _ _ _ accepted (search) _ _),
+      sym (bytes-none _ _ _ _ accepted (search) _),
     )
 
 root-of-requires : tie.Need-root-of-requires
-root-of-requires c κs = root-requires _ _ _ (accepted-told (c .before .before .count .given .1) (search)) (search)
+root-of-requires c κs =
+    let told : tie.After-count = search in
+    root-requires _ _ _ _ (accepted-told (told .count .given .1) (told .before .before .check .ensures)) (search)
 
 get-bytes-requires : tie.Need-get-bytes-requires
 get-bytes-requires c κs =
     let told : tie.After-count = search in
     let accepted = accepted-told (told .count .given .1) (told .before .before .check .ensures) in
-    (entries-few _ server _ _ accepted, node _ server _ _ accepted (search) _ (c .root-of .ensures))
+    (entries-few _ _ _ _ accepted, node _ _ _ _ accepted (search) _ (c .root-of .ensures) (within-server _))
 
 returns-3 : tie.Need-returns-3
 returns-3 c =
@@ -38,8 +40,8 @@ returns-3 c =
     let accepted = accepted-told (told .count .given .1) (told .before .before .check .ensures) in
     let leads = c .before .root-of .ensures in
     let (place, bytes) = c .get-bytes .ensures in (
-      place ∙ sym (place-gives _ server _ _ accepted (search) _ leads _ _),
-      bytes ∙ sym (bytes-gives _ server _ _ accepted (search) _ leads _),
+      place ∙ sym (place-gives _ _ _ _ accepted (search) _ leads (within-server _) _ _),
+      bytes ∙ sym (bytes-gives _ _ _ _ accepted (search) _ leads (within-server _) _),
     )
 
 pub lookup-bytes-spec : {M : Type 1} → statement M

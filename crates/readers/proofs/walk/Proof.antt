@@ -1,6 +1,6 @@
 -- `readers::walk` meets its contract. Assumes nothing.
 use mathlib.Core.Path.{sym}
-use Rattle.format.specs.Layout.{server}
+use Rattle.format.specs.Laws.Numbers.Limits.{within-server}
 use Rattle.format.specs.Laws.Calls.Accepted.{entries-few, node, walk-refuses, walk-keys-refuses, walk-values-refuses}
 use Rattle.format.specs.Laws.Calls.Accepted.{walk-none, walk-keys-none, walk-values-none, walk-gives, walk-keys-gives, walk-values-gives}
 use borrow.Author.Needs.{needs}
@@ -12,26 +12,28 @@ returns : tie.Need-returns
 returns c =
     let told : tie.After-count = search in
     let accepted = accepted-told (told .count .given .1) (told .before .before .check .ensures) in (
-      sym (walk-none _ server _ _ accepted (search) _ _),
-      (sym (walk-keys-none _ server _ _ accepted (search) _ _), sym (walk-values-none _ server _ _ accepted (search) _ _)),
+      sym (walk-none _ _ _ _ accepted (search) _ _),
+      (sym (walk-keys-none _ _ _ _ accepted (search) _ _), sym (walk-values-none _ _ _ _ accepted (search) _ _)),
     )
 
 root-of-requires : tie.Need-root-of-requires
-root-of-requires c κs = root-requires _ _ _ (accepted-told (c .before .before .count .given .1) (search)) (search)
+root-of-requires c κs =
+    let told : tie.After-count = search in
+    root-requires _ _ _ _ (accepted-told (told .count .given .1) (told .before .before .check .ensures)) (search)
 
 visit-requires : tie.Need-visit-requires
 visit-requires c κs =
     let told : tie.After-count = search in
     let root : tie.After-root-of = search in
     let accepted = accepted-told (told .count .given .1) (told .before .before .check .ensures) in
-    (entries-few _ server _ _ accepted, node _ server _ _ accepted (search) _ (root .root-of .ensures))
+    (entries-few _ _ _ _ accepted, node _ _ _ _ accepted (search) _ (root .root-of .ensures) (within-server _))
 
 returns-2 : tie.Need-returns-2
 returns-2 c =
     let told : tie.After-why = search in
     let refused = refused-told (told .why .given .1) (told .before .before .check .ensures) in (
-      sym (walk-refuses _ server _ _ refused _ _),
-      (sym (walk-keys-refuses _ server _ _ refused _ _), sym (walk-values-refuses _ server _ _ refused _ _)),
+      sym (walk-refuses _ _ _ _ refused _ _),
+      (sym (walk-keys-refuses _ _ _ _ refused _ _), sym (walk-values-refuses _ _ _ _ refused _ _)),
     )
 
 returns-3 : tie.Need-returns-3
@@ -42,10 +44,10 @@ returns-3 c =
     let accepted = accepted-told (told .count .given .1) (told .before .before .check .ensures) in
     let leads = root .root-of .ensures in
     let written = visited .visit .ensures in (
-      sym (walk-gives _ server _ _ accepted (search) _ leads _ _ _ _ _ written),
+      sym (walk-gives _ _ _ _ accepted (search) _ leads (within-server _) _ _ _ _ _ written),
       (
-        sym (walk-keys-gives _ server _ _ accepted (search) _ leads _ _ _ _ _ written),
-        sym (walk-values-gives _ server _ _ accepted (search) _ leads _ _ _ _ _ written),
+        sym (walk-keys-gives _ _ _ _ accepted (search) _ leads (within-server _) _ _ _ _ _ written),
+        sym (walk-values-gives _ _ _ _ accepted (search) _ leads (within-server _) _ _ _ _ _ written),
       ),
     )
 
