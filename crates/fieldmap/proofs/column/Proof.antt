@@ -7,7 +7,6 @@ use mir.Val.{SFits, toZ, ofZ}
 use mir.Facts.{toZ-ofZ}
 use borrow.Author.Needs.{needs}
 use Rattle.format.specs.declared.Packing.{Packing}
-use Rattle.format.specs.Layout.{server}
 use Rattle.format.specs.Key.{columnBounds}
 use Rattle.format.specs.Laws.Calls.Certified.{column-ranges, column-keys-ranges, column-values-ranges}
 use Rattle.format.specs.Laws.Calls.Certified.{column-uncertified, column-refused, column-keys-refused, column-values-refused}
@@ -27,8 +26,8 @@ returns c =
     let told : tie.After-why = search in
     let start : tie.Start = search in
     let refused = bounds-told _ _ _ (start .fits .a) (start .fits .b) (told .why .given .1) (told .before .before .column-bounds .ensures) in (
-      sym (column-uncertified _ server _ _ _ _ _ _ _ _ _ (refused-told (c .before .first .given .1) (search))),
-      (sym (column-keys-refused _ server _ _ _ _ _ _ _ _ _ refused), sym (column-values-refused _ server _ _ _ _ _ _ _ _ _ refused)),
+      sym (column-uncertified _ _ _ _ _ _ _ _ _ _ _ (refused-told (c .before .first .given .1) (search))),
+      (sym (column-keys-refused _ _ _ _ _ _ _ _ _ _ _ refused), sym (column-values-refused _ _ _ _ _ _ _ _ _ _ _ refused)),
     )
 
 returns-2 : tie.Need-returns-2
@@ -38,10 +37,10 @@ returns-2 c =
     let start : tie.Start = search in
     let given = bounds-told _ _ _ (start .fits .a) (start .fits .b) (told .c .given .1) (told .before .before .column-bounds .ensures) in
     let (answer, lists) = found .range .ensures in (
-      answer ∙ sym (column-ranges _ server _ _ _ _ _ _ _ _ _ given),
+      answer ∙ sym (column-ranges _ _ _ _ _ _ _ _ _ _ _ given),
       (
-        lists .0 ∙ sym (column-keys-ranges _ server _ _ _ _ _ _ _ _ _ given),
-        lists .1 ∙ sym (column-values-ranges _ server _ _ _ _ _ _ _ _ _ given),
+        lists .0 ∙ sym (column-keys-ranges _ _ _ _ _ _ _ _ _ _ _ given),
+        lists .1 ∙ sym (column-values-ranges _ _ _ _ _ _ _ _ _ _ _ given),
       ),
     )
 
@@ -50,8 +49,8 @@ returns-3 c =
     let told : tie.After-why = search in
     let start : tie.Start = search in
     let refused = bounds-told _ _ _ (start .fits .a) (start .fits .b) (told .why .given .1) (told .before .before .column-bounds .ensures) in (
-      sym (column-refused _ server _ _ _ _ _ _ _ _ _ refused _ (accepted-told (c .enum-told .given .1) (search))),
-      (sym (column-keys-refused _ server _ _ _ _ _ _ _ _ _ refused), sym (column-values-refused _ server _ _ _ _ _ _ _ _ _ refused)),
+      sym (column-refused _ _ _ _ _ _ _ _ _ _ _ refused _ (accepted-told (c .enum-told .given .1) (search))),
+      (sym (column-keys-refused _ _ _ _ _ _ _ _ _ _ _ refused), sym (column-values-refused _ _ _ _ _ _ _ _ _ _ _ refused)),
     )
 
 pub column-spec : {M : Type 1} → statement M

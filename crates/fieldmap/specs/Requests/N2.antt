@@ -6,7 +6,7 @@ use mathlib.Core.List.{List}
 use Rattle.format.specs.declared.Bound.{Bound}
 use Rattle.format.specs.declared.Bound.the-variants.{Included, Excluded, Unbounded}
 use Rattle.format.specs.declared.Ends.the-variants.{Nothing}
-use Rattle.format.specs.Layout.{Layout, server}
+use Rattle.format.specs.Layout.{Layout, Limits}
 use Rattle.format.specs.Bytes.{AllBytes}
 use Rattle.format.specs.Entries.{list}
 use Rattle.format.specs.Range.{keyMeetsLower, keyMeetsUpper, select, crosses, range, Fits, endsOf, holds, held}
@@ -43,6 +43,6 @@ pub n2-crossed : (lower upper : Bound) → crosses lower upper ≡ true → ends
 n2-crossed lower upper c = crossed-nothing lower upper c
 
 -- "Range's contract and answers are the same before and after": the range by which its contract is stated has the entries that the numbers select.
-pub n2-range : (L : Layout) (s : List ℕ) → AllBytes s → (lower upper : Bound)
-    → range L server s lower upper ≡ select (held (endsOf lower upper)) (list L server s)
-n2-range L s b lower upper = range-ends lower upper L s b server
+pub n2-range : (L : Layout) (M : Limits) (s : List ℕ) → AllBytes s → (lower upper : Bound)
+    → range L M s lower upper ≡ select (held (endsOf lower upper)) (list L M s)
+n2-range L M s b lower upper = range-ends lower upper L s b M

@@ -10,7 +10,7 @@ use lib.IntN.{pos, _+ℤ_}
 use lib.ListN.{length}
 use Rattle.format.specs.declared.Width.{Width as NamedWidth}
 use Rattle.format.specs.declared.Width.the-variants.{Two, Four, Eight}
-use Rattle.format.specs.Layout.{Width, two, eight, signBits, Layout, atWidth, entriesInRange, pointer, leafSize, innerSize, recordSize, recordAlign, server}
+use Rattle.format.specs.Layout.{Width, two, eight, signBits, Layout, atWidth, entriesInRange, pointer, leafSize, innerSize, recordSize, recordAlign, Limits}
 use Rattle.format.specs.Refusal.{gives, refuses, provided, RefusesBy}
 use Rattle.format.specs.Bytes.{leAt}
 use Rattle.format.specs.Signed.{ofTwos}
@@ -21,7 +21,7 @@ use Rattle.format.specs.Build.{height, lastLevel, treeOf, start, behind, pairs,
 use Rattle.format.specs.Built.{Taken}
 use Rattle.format.specs.Offsets.{archiveEmplaces}
 use Rattle.format.specs.Weight.{reach}
-use Rattle.format.specs.Laws.Numbers.Widths.{bytes-few, in-range}
+use Rattle.format.specs.Laws.Numbers.Widths.{in-range}
 use Rattle.format.specs.Laws.Check.Refusals.{too-short}
 use Rattle.format.specs.Laws.Build.Taken.{taken, by-16}
 use Rattle.format.specs.Laws.Build.Certifies.{by-number, wide-gives}
@@ -59,9 +59,9 @@ module _ (L : Layout) (s : List ℕ) where
   unfolding root
   n8-record = refl
 
-  pub n8-too-short : entriesInRange L ≡ true → length s < 2 * pointer L → counted (checkArchive L server s) ≡ refuses 2
-  unfolding server
-  n8-too-short i l = too-short L server s i (omega (arith, bytes-few (L .width))) l
+  pub n8-too-short : (M : Limits) → entriesInRange L ≡ true → length s ≤ M .longest → length s < 2 * pointer L
+      → counted (checkArchive L M s) ≡ refuses 2
+  n8-too-short M i small l = too-short L M s i small l
 
 -- "Builder, check and every reader take one of these three widths from the caller, and no other can be named"
 pub n8-three : (w : NamedWidth) → (w ≡ Two) ⊎ ((w ≡ Four) ⊎ (w ≡ Eight))

@@ -9,7 +9,7 @@ use lib.IntN.{ℤ}
 use lib.ListN.{length}
 use Rattle.format.specs.declared.Bound.{Bound}
 use Rattle.format.specs.declared.Packing.{Packing}
-use Rattle.format.specs.Layout.{Width, four, Layout, entriesInRange, leafSize, innerSize, server, nested}
+use Rattle.format.specs.Layout.{Width, four, Layout, entriesInRange, leafSize, innerSize, Limits, server, nested}
 use Rattle.format.specs.Refusal.{Answer, gives, refuses, From}
 use Rattle.format.specs.Check.{Checked, refused, counted, checkBody, checkArchive}
 use Rattle.format.specs.Certify.{certify}
@@ -64,71 +64,72 @@ unfolding height logFrom
 n9-most-levels w = refl
 
 -- "What an accepted archive guarantees is shown for all these layouts together": Demands.antt has it over every layout, and what is accepted has one of these.
-pub n9-accepted : (L : Layout) (s : List ℕ) (n : ℕ) → counted (checkArchive L server s) ≡ gives n → (3 ≤ L .entries) × (L .entries ≤ 15)
-n9-accepted L s n e = let A = is-archive L server s n e in (A .least, A .most)
+pub n9-accepted : (L : Layout) (M : Limits) (s : List ℕ) (n : ℕ) → counted (checkArchive L M s) ≡ gives n → (3 ≤ L .entries) × (L .entries ≤ 15)
+n9-accepted L M s n e = let A = is-archive L M s n e in (A .least, A .most)
 
 -- "Refused: 24 when the number is outside 3 to 15, before every other refusal": each call that builds, checks or reads, whatever else it is given. Lent lists
 -- stay, and the second form of lookup gives the empty part, at the archive's start.
-module _ (L : Layout) (outside : entriesInRange L ≡ false) where
-  pub n9-check : (s : List ℕ) → counted (checkArchive L server s) ≡ refuses 24
-  n9-check s = check-by L server s .0 outside
+module _ (L : Layout) (M : Limits) (outside : entriesInRange L ≡ false) where
+  pub n9-check : (s : List ℕ) → counted (checkArchive L M s) ≡ refuses 24
+  n9-check s = check-by L M s .0 outside
 
-  pub n9-certify : (s : List ℕ) → counted (certify L server s) ≡ refuses 24
-  n9-certify s = certify-by L server s .0 outside
+  pub n9-certify : (s : List ℕ) → counted (certify L M s) ≡ refuses 24
+  n9-certify s = certify-by L M s .0 outside
 
   pub record LookupOutside (s : List ℕ) (k : ℕ) : Type 0 where
-    pub answer : lookupCall L server s k ≡ refuses 24
-    pub part : bytesCall L server s k ≡ []
-    pub place : (a : ℕ × ℕ) → placeCall L server s a k ≡ a
+    pub answer : lookupCall L M s k ≡ refuses 24
+    pub part : bytesCall L M s k ≡ []
+    pub place : (a : ℕ × ℕ) → placeCall L M s a k ≡ a
 
   pub n9-lookup : (s : List ℕ) (k : ℕ) → LookupOutside s k
   n9-lookup s k =
       let c = n9-check s in
       record {
-        answer = lookup-refuses L server s 24 c k;
-        part = bytes-refuses L server s 24 c k;
-        place = λ a. place-refuses L server s 24 c a k;
+        answer = lookup-refuses L M s 24 c k;
+        part = bytes-refuses L M s 24 c k;
+        place = λ a. place-refuses L M s 24 c a k;
       }
 
   pub record WalkOutside (s ks vs : List ℕ) : Type 0 where
-    pub answer : walkCall L server s ks vs ≡ refuses 24
-    pub keys : walkKeys L server s ks vs ≡ ks
-    pub values : walkValues L server s ks vs ≡ vs
+    pub answer : walkCall L M s ks vs ≡ refuses 24
+    pub keys : walkKeys L M s ks vs ≡ ks
+    pub values : walkValues L M s ks vs ≡ vs
 
   pub n9-walk : (s ks vs : List ℕ) → WalkOutside s ks vs
   n9-walk s ks vs =
       let c = n9-check s in
       record {
-        answer = walk-refuses L server s 24 c ks vs;
-        keys = walk-keys-refuses L server s 24 c ks vs;
-        values = walk-values-refuses L server s 24 c ks vs;
+        answer = walk-refuses L M s 24 c ks vs;
+        keys = walk-keys-refuses L M s 24 c ks vs;
+        values = walk-values-refuses L M s 24 c ks vs;
       }
 
   pub record RangeOutside (s : List ℕ) (lo hi : Bound) (ks vs : List ℕ) : Type 0 where
-    pub answer : rangeCall L server s lo hi ks vs ≡ refuses 24
-    pub keys : rangeKeys L server s lo hi ks vs ≡ ks
-    pub values : rangeValues L server s lo hi ks vs ≡ vs
+    pub answer : rangeCall L M s lo hi ks vs ≡ refuses 24
+    pub keys : rangeKeys L M s lo hi ks vs ≡ ks
+    pub values : rangeValues L M s lo hi ks vs ≡ vs
 
   pub n9-range : (s : List ℕ) (lo hi : Bound) (ks vs : List ℕ) → RangeOutside s lo hi ks vs
   n9-range s lo hi ks vs =
       let c = n9-certify s in
       record {
-        answer = range-refuses L server s 24 c lo hi ks vs;
-        keys = range-keys-refuses L server s 24 c lo hi ks vs;
-        values = range-values-refuses L server s 24 c lo hi ks vs;
+        answer = range-refuses L M s 24 c lo hi ks vs;
+        keys = range-keys-refuses L M s 24 c lo hi ks vs;
+        values = range-values-refuses L M s 24 c lo hi ks vs;
       }
 
   pub record ColumnOutside (s : List ℕ) (P : Packing) (exam eye : ℕ) (a b : ℤ) (ks vs : List ℕ) : Type 0 where
-    pub answer : columnCall L server s P exam eye a b ks vs ≡ refuses 24
-    pub keys : columnKeys L server s P exam eye a b ks vs ≡ ks
-    pub values : columnValues L server s P exam eye a b ks vs ≡ vs
+    pub answer : columnCall L M s P exam eye a b ks vs ≡ refuses 24
+    pub keys : columnKeys L M s P exam eye a b ks vs ≡ ks
+    pub values : columnValues L M s P exam eye a b ks vs ≡ vs
 
   pub n9-column : (s : List ℕ) (P : Packing) (exam eye : ℕ) (a b : ℤ) (ks vs : List ℕ) → ColumnOutside s P exam eye a b ks vs
   n9-column s P exam eye a b ks vs =
-      let answer = column-uncertified L server s P exam eye a b ks vs 24 (n9-certify s) in
-      let kept = column-refused-by L server s P exam eye a b ks vs 24 answer .1 in
+      let answer = column-uncertified L M s P exam eye a b ks vs 24 (n9-certify s) in
+      let kept = column-refused-by L M s P exam eye a b ks vs 24 answer .1 in
       record { answer = answer; keys = kept .0; values = kept .1 }
 
+module _ (L : Layout) (outside : entriesInRange L ≡ false) where
   pub n9-build : (ks vs : List ℕ) (h : ℕ) (out : List ℕ) → (build L ks vs h (length out) ≡ refuses 24) × (outAfter L ks vs h out ≡ out)
   unfolding outAfter
   n9-build ks vs h out =
@@ -139,11 +140,11 @@ module _ (L : Layout) (outside : entriesInRange L ≡ false) where
   n9-length n h = length-by L n h .0 outside
 
 -- "check, certify and build give it beside their numbers in document 01": by 24 they refuse only there.
-pub n9-check-only : (L : Layout) (s : List ℕ) → counted (checkArchive L server s) ≡ refuses 24 → entriesInRange L ≡ false
-n9-check-only L s e = only-24 L (From 1 7) (λ f. omega (arith, f)) (check-by L server s) e
+pub n9-check-only : (L : Layout) (M : Limits) (s : List ℕ) → counted (checkArchive L M s) ≡ refuses 24 → entriesInRange L ≡ false
+n9-check-only L M s e = only-24 L (From 1 7) (λ f. omega (arith, f)) (check-by L M s) e
 
-pub n9-certify-only : (L : Layout) (s : List ℕ) → counted (certify L server s) ≡ refuses 24 → entriesInRange L ≡ false
-n9-certify-only L s e = only-24 L (From 1 9) (λ f. omega (arith, f)) (certify-by L server s) e
+pub n9-certify-only : (L : Layout) (M : Limits) (s : List ℕ) → counted (certify L M s) ≡ refuses 24 → entriesInRange L ≡ false
+n9-certify-only L M s e = only-24 L (From 1 9) (λ f. omega (arith, f)) (certify-by L M s) e
 
 pub n9-build-only : (L : Layout) (ks vs : List ℕ) (h room : ℕ) → build L ks vs h room ≡ refuses 24 → entriesInRange L ≡ false
 n9-build-only L ks vs h room e = only-24 L (λ r. From 10 14 r ⊎ (r ≡ 16)) other (build-by L ks vs h room) e

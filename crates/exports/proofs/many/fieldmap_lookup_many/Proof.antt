@@ -4,7 +4,6 @@ use Prim.Native.Nat.{ℕ, _*_, _<_, _^_}
 use native.Mathlib.Omega.{arith}
 use lib.ListN.{length}
 use borrow.Author.Needs.{needs}
-use Rattle.format.specs.Layout.{server}
 use Rattle.codes.proofs.Coded.{answers-given, answers-refused, returned}
 use Rattle.lookups.proofs.ManyLookups.{many-most}
 use Rattle.readers.specs.Answers.{manyOf}
@@ -18,7 +17,7 @@ given-requires c κs =
     let told : tie.After-n = search in
     let start : tie.Start = search in
     let room : length (start .args .keys .now) * 8 < 2 ^ 63 = search in
-    omega (arith, room, many-most _ server _ _ _ _ (sym (call .look-up-many .ensures .0) ∙ ap manyOf (told .n .given .1)))
+    omega (arith, room, many-most _ _ _ _ _ _ (sym (call .look-up-many .ensures .0) ∙ ap manyOf (told .n .given .1)))
 
 returns : tie.Need-returns
 returns c =

@@ -4,6 +4,7 @@ use mathlib.Core.Path.{_∙_, sym, ap}
 use native.Mathlib.Omega.{arith}
 use borrow.Author.Needs.{needs}
 use Rattle.format.specs.Layout.{server}
+use Rattle.format.specs.Laws.Numbers.Limits.{within-server}
 use Rattle.exports.proofs.Numbers.{column-most}
 use Rattle.readers.specs.Answers.{rangeOf}
 use Rattle.codes.specs.Answers.{rangeWritten, rangeMatching}
@@ -17,7 +18,7 @@ given-requires c κs =
     let call : tie.After-column = search in
     let told : tie.After-written = search in
     let e = sym (call .column .ensures .0) ∙ ap rangeOf (told .written .given .1) in
-    omega (arith, column-most _ server _ _ _ _ _ _ _ _ _ e)
+    omega (arith, column-most _ (within-server _) _ _ _ _ _ _ _ _ _ e)
 
 returns : tie.Need-returns
 returns c =

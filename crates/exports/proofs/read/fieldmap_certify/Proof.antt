@@ -4,6 +4,7 @@ use mathlib.Core.Path.{_∙_, sym, ap}
 use native.Mathlib.Omega.{arith}
 use borrow.Author.Needs.{needs}
 use Rattle.format.specs.Layout.{server}
+use Rattle.format.specs.Laws.Numbers.Limits.{within-server}
 use Rattle.exports.proofs.Numbers.{count-most}
 use Rattle.format.specs.Laws.Calls.Certified.{certified-accepts}
 use Rattle.codes.specs.Answers.{coded}
@@ -14,8 +15,8 @@ use Rattle.exports.proofs.read.fieldmap_certify.Tie as tie
 counted-requires : tie.Need-counted-requires
 unfolding server
 counted-requires c κs = λ n e.
-    let accepted = certified-accepts _ server _ n (sym (c .certify .ensures) ∙ e) in
-    omega (arith, count-most _ server _ n accepted)
+    let accepted = certified-accepts _ _ _ n (sym (c .certify .ensures) ∙ e) in
+    omega (arith, count-most _ (within-server _) _ n accepted)
 
 returns : tie.Need-returns
 returns c =

@@ -4,6 +4,7 @@ use mathlib.Core.Path.{_∙_, sym, ap}
 use native.Mathlib.Omega.{arith}
 use borrow.Author.Needs.{needs}
 use Rattle.format.specs.Layout.{server}
+use Rattle.format.specs.Laws.Numbers.Limits.{within-server}
 use Rattle.exports.proofs.Numbers.{count-most}
 use Rattle.codes.specs.Answers.{coded}
 use Rattle.codes.proofs.Coded.{told-counted, returned}
@@ -13,7 +14,7 @@ use Rattle.exports.proofs.read.fieldmap_check.Tie as tie
 counted-requires : tie.Need-counted-requires
 unfolding server
 counted-requires c κs = λ n e.
-    omega (arith, count-most _ server _ n (sym (c .check .ensures) ∙ e))
+    omega (arith, count-most _ (within-server _) _ n (sym (c .check .ensures) ∙ e))
 
 returns : tie.Need-returns
 returns c =

@@ -3,6 +3,7 @@ use mathlib.Core.Path.{_∙_, sym, ap}
 use native.Mathlib.Omega.{arith}
 use borrow.Author.Needs.{needs}
 use Rattle.format.specs.Layout.{server}
+use Rattle.format.specs.Laws.Numbers.Limits.{within-server}
 use Rattle.exports.proofs.Numbers.{walk-most}
 use Rattle.readers.specs.Answers.{walkOf}
 use Rattle.codes.specs.Answers.{walkWritten, walkCount}
@@ -16,7 +17,7 @@ given-requires c κs =
     let call : tie.After-walk = search in
     let told : tie.After-written = search in
     let e = sym (call .walk .ensures .0) ∙ ap walkOf (told .written .given .1) in
-    omega (arith, walk-most _ server _ _ _ _ e)
+    omega (arith, walk-most _ (within-server _) _ _ _ _ e)
 
 returns : tie.Need-returns
 returns c =
