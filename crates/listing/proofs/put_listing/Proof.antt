@@ -5,6 +5,7 @@ use Prim.Native.Nat.{ℕ, _≤_}
 use native.Mathlib.Omega.{arith}
 use lib.ListN.{length, replicate, length-replicate}
 use borrow.Author.Needs.{needs}
+use Rattle.format.specs.Layout.{server, countsAs}
 use Rattle.readers.specs.Answers.{walkOf}
 use Rattle.listing.specs.Listing.{titleLine}
 use Rattle.text.proofs.Texts.{stays}
@@ -24,6 +25,7 @@ start w = search
 
 -- What the text is after a walk that is not refused.
 listed-after : (w : tie.After-written) → Listed (start w .args .archive .now) zeros zeros (w .written .given .0 .0)
+unfolding server countsAs
 listed-after w =
     let walked : tie.After-walk = search in
     listed _ _ _ _ _ (sym (ap walkOf (w .written .given .1)) ∙ walked .walk .ensures .0) (start w .pre .0) zeros-long zeros-long
@@ -36,6 +38,7 @@ put-entries-requires c κs =
     (omega (arith, k .few, titled .put-title .ensures .0), omega (arith, k .few), omega (arith, k .few))
 
 returns : tie.Need-returns
+unfolding server countsAs
 returns c =
     let walked : tie.After-walk = search in
     let titled : tie.After-put-title = search in (
@@ -48,6 +51,7 @@ returns c =
     )
 
 returns-2 : tie.Need-returns-2
+unfolding server countsAs
 returns-2 c =
     let entries : tie.After-put-entries = search in
     let wrote : tie.After-written = search in

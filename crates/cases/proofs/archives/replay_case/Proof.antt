@@ -14,6 +14,7 @@ replay-case-spec =
     (search needs)
     (search needs)
     (search needs)
+    (search needs)
     (λ c. sym (length-take-le _ _ (omega arith)))
     (search needs)
     (search needs)

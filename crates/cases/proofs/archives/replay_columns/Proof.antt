@@ -4,10 +4,10 @@ use Rattle.cases.proofs.archives.replay_columns.Statement.{statement}
 use Rattle.cases.proofs.archives.replay_columns.Tie as tie
 
 abbrev Inv-loop : tie.InvT-loop
-Inv-loop width archive left₀ left = Unit {0}
+Inv-loop layout limits archive left₀ left = Unit {0}
 
 abbrev μ-loop : tie.MeasureT-loop
-μ-loop width archive left₀ left = left
+μ-loop layout limits archive left₀ left = left
 
 pub replay-columns-spec : {M : Type 1} → statement M
 replay-columns-spec = tie.close (tie.spec Inv-loop μ-loop
