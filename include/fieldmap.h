@@ -25,17 +25,15 @@ extern "C" {
 
 /* The version of these declarations. */
 #define FIELDMAP_VERSION_MAJOR 0
-#define FIELDMAP_VERSION_MINOR 5
+#define FIELDMAP_VERSION_MINOR 6
 #define FIELDMAP_VERSION_PATCH 0
-#define FIELDMAP_VERSION "0.5.0"
+#define FIELDMAP_VERSION "0.6.0"
 
-/* The limits, which are the same by every layout. */
-#define FIELDMAP_LONGEST_ARCHIVE 1048576 /* bytes of an archive */
-#define FIELDMAP_MOST_NESTED 14          /* nodes below each other */
-#define FIELDMAP_FEWEST_IN_NODE 3        /* the entries a node that a layout can have, at least */
-#define FIELDMAP_MOST_IN_NODE 15         /* and at most */
-#define FIELDMAP_MOST_ENTRIES 40000      /* entries of a build */
-#define FIELDMAP_LONGEST_HEADER 4096     /* bytes in front of a built archive */
+/* What is the same for every caller and by every layout. */
+#define FIELDMAP_FEWEST_IN_NODE 3    /* the entries a node that a layout can have, at least */
+#define FIELDMAP_MOST_IN_NODE 15     /* and at most */
+#define FIELDMAP_MOST_ENTRIES 40000  /* entries of a build */
+#define FIELDMAP_LONGEST_HEADER 4096 /* bytes in front of a built archive */
 
 /* Where the compiler can, it warns of an answer, which may be a refusal, that is not looked at. */
 #if defined(__GNUC__) || defined(__clang__)
@@ -46,11 +44,11 @@ extern "C" {
 
 /* The refusals, in checking order, but for 24, which comes before every other. */
 enum {
-    FIELDMAP_ARCHIVE_TOO_LONG = 1,                /* the archive is longer than 1,048,576 bytes */
+    FIELDMAP_ARCHIVE_TOO_LONG = 1,                /* the archive is longer than the limit */
     FIELDMAP_INVALID_SUBTREE_POINTER = 2,         /* the record or a node leaves its range */
     FIELDMAP_UNALIGNED_POINTER = 3,               /* the record or a node is not on its alignment */
     FIELDMAP_INVALID_KIND = 4,                    /* a node's kind byte is neither 0 nor 1 */
-    FIELDMAP_EXCEEDED_MAXIMUM_SUBTREE_DEPTH = 5,  /* more than 14 nodes are nested */
+    FIELDMAP_EXCEEDED_MAXIMUM_SUBTREE_DEPTH = 5,  /* more nodes are nested than the depth limit allows */
     FIELDMAP_INVALID_LENGTH = 6,                  /* a leaf's count is above the layout's entries a node */
     FIELDMAP_ENTRIES_LENGTH_MISMATCH = 7,         /* the entries differ from the recorded count */
     FIELDMAP_HOLLOW_NODE = 8,                     /* a leaf is empty or an inner node has no first child */
@@ -98,6 +96,28 @@ enum {
 #define FIELDMAP_COMMON_ENTRIES 5
 #define FIELDMAP_COMMON_LAYOUT FIELDMAP_COMMON_WIDTH, FIELDMAP_COMMON_ENTRIES
 
+/*
+ * The limits. Each call that reads an archive takes two numbers behind the layout, by which the caller says how much it reads:
+ *
+ *   longest                   the bytes of an archive at most; a longer one is refused by 1
+ *   depth                     the depth that the check starts with, which counts the record too: with depth d up to d - 2 nested nodes pass,
+ *                             and one more is refused by 5
+ *
+ * The viewer takes 4,096 bytes and depth 5, so three nested nodes; the server 1,048,576 bytes and depth 16, so 14 nested nodes. Any two numbers
+ * may be named. Each that is above the server's counts as the server's. A depth of 0 counts as 1, by which the record itself is too deep: what
+ * is not refused by 24, 1, 2 or 3 is refused by 5, also an archive without entries.
+ *
+ * The limits decide what is refused by 1 and 5, and nothing else: two callers to whom a call gives neither get the same answer.
+ */
+#define FIELDMAP_VIEWER_LONGEST 4096
+#define FIELDMAP_VIEWER_DEPTH 5
+#define FIELDMAP_SERVER_LONGEST 1048576
+#define FIELDMAP_SERVER_DEPTH 16
+
+/* As FIELDMAP_VIEWER_LIMITS and FIELDMAP_SERVER_LIMITS they pass as both arguments. */
+#define FIELDMAP_VIEWER_LIMITS FIELDMAP_VIEWER_LONGEST, FIELDMAP_VIEWER_DEPTH
+#define FIELDMAP_SERVER_LIMITS FIELDMAP_SERVER_LONGEST, FIELDMAP_SERVER_DEPTH
+
 /* The kinds of a bound. */
 enum {
     FIELDMAP_INCLUDED = 0,
@@ -114,11 +134,11 @@ enum {
 /* What a negative answer says, in English. */
 static inline const char *fieldmap_refusal_text(int64_t answer) {
     switch (answer) {
-    case -FIELDMAP_ARCHIVE_TOO_LONG: return "the archive is longer than 1,048,576 bytes";
+    case -FIELDMAP_ARCHIVE_TOO_LONG: return "the archive is too long";
     case -FIELDMAP_INVALID_SUBTREE_POINTER: return "the record or a node leaves its range";
     case -FIELDMAP_UNALIGNED_POINTER: return "the record or a node is not on its alignment";
     case -FIELDMAP_INVALID_KIND: return "a node is neither a leaf nor an inner node";
-    case -FIELDMAP_EXCEEDED_MAXIMUM_SUBTREE_DEPTH: return "more than 14 nodes are nested";
+    case -FIELDMAP_EXCEEDED_MAXIMUM_SUBTREE_DEPTH: return "the nodes are nested too deep";
     case -FIELDMAP_INVALID_LENGTH: return "a leaf counts more entries than a node may have";
     case -FIELDMAP_ENTRIES_LENGTH_MISMATCH: return "the entries are not as many as recorded";
     case -FIELDMAP_HOLLOW_NODE: return "a leaf is empty, or an inner node has no first child";
@@ -141,17 +161,16 @@ static inline const char *fieldmap_refusal_text(int64_t answer) {
  * The calls that take a layout. The refusals that stand at each come behind 24, which all of them give where `entries` is not 3 to 15.
  */
 
-/*
- * The recorded count of an archive of at most 1,048,576 bytes that rkyv's check, with at most 14 nested nodes, accepts, or the first fault of 1
- * to 7.
- */
-FIELDMAP_MUST_USE int64_t fieldmap_check(uint8_t width, size_t entries, const uint8_t *archive, size_t archive_len);
+/* The recorded count of an archive that rkyv's check, with the limits, accepts, or the first fault of 1 to 7. */
+FIELDMAP_MUST_USE int64_t fieldmap_check(
+    uint8_t width, size_t entries, size_t longest, size_t depth, const uint8_t *archive, size_t archive_len);
 
 /* The recorded count of an accepted archive whose keys strictly ascend and that has no hollow node, or the first fault of 1 to 9. */
-FIELDMAP_MUST_USE int64_t fieldmap_certify(uint8_t width, size_t entries, const uint8_t *archive, size_t archive_len);
+FIELDMAP_MUST_USE int64_t fieldmap_certify(
+    uint8_t width, size_t entries, size_t longest, size_t depth, const uint8_t *archive, size_t archive_len);
 
 /*
- * Each reader below runs the check first, range and column certification, on every call.
+ * Each reader below runs the check first, range and column certification, with the limits, on every call.
  */
 
 /*
@@ -160,7 +179,8 @@ FIELDMAP_MUST_USE int64_t fieldmap_certify(uint8_t width, size_t entries, const 
  * archive that is only accepted it is what rkyv's search finds, which can miss an entry that the walk shows.
  */
 FIELDMAP_MUST_USE int64_t fieldmap_lookup(
-    uint8_t width, size_t entries, const uint8_t *archive, size_t archive_len, uint64_t key, uint64_t *value, uint64_t *position);
+    uint8_t width, size_t entries, size_t longest, size_t depth, const uint8_t *archive, size_t archive_len, uint64_t key,
+    uint64_t *value, uint64_t *position);
 
 /*
  * The eight bytes of the value that fieldmap_lookup finds, as a part of the archive: the answer is the part's length, 8, and the position where
@@ -168,30 +188,31 @@ FIELDMAP_MUST_USE int64_t fieldmap_lookup(
  * fieldmap_lookup does.
  */
 FIELDMAP_MUST_USE int64_t fieldmap_lookup_bytes(
-    uint8_t width, size_t entries, const uint8_t *archive, size_t archive_len, uint64_t key, uint64_t *start);
+    uint8_t width, size_t entries, size_t longest, size_t depth, const uint8_t *archive, size_t archive_len, uint64_t key,
+    uint64_t *start);
 
 /*
  * Looks up keys after one check, each as fieldmap_lookup does. The value of a key that is found goes to the place of its key in the values;
  * other places keep what they hold, and keys beyond the values' places are not looked up. The number of keys found.
  */
 FIELDMAP_MUST_USE int64_t fieldmap_lookup_many(
-    uint8_t width, size_t entries, const uint8_t *archive, size_t archive_len, const uint64_t *keys, size_t keys_len,
-    uint64_t *values, size_t values_len);
+    uint8_t width, size_t entries, size_t longest, size_t depth, const uint8_t *archive, size_t archive_len,
+    const uint64_t *keys, size_t keys_len, uint64_t *values, size_t values_len);
 
 /*
  * Writes keys and values in the order of the walk until the shorter list is full; other places keep what they hold. The number written; the
  * recorded count is stored.
  */
 FIELDMAP_MUST_USE int64_t fieldmap_walk(
-    uint8_t width, size_t entries, const uint8_t *archive, size_t archive_len, uint64_t *keys, size_t keys_len,
-    uint64_t *values, size_t values_len, uint64_t *count);
+    uint8_t width, size_t entries, size_t longest, size_t depth, const uint8_t *archive, size_t archive_len,
+    uint64_t *keys, size_t keys_len, uint64_t *values, size_t values_len, uint64_t *count);
 
 /*
  * Writes keys and values of the entries of a certified archive that meet both bounds, as a walk does. The number written; the number of entries
  * that match is stored. Where the bounds cross, nothing matches.
  */
 FIELDMAP_MUST_USE int64_t fieldmap_range(
-    uint8_t width, size_t entries, const uint8_t *archive, size_t archive_len,
+    uint8_t width, size_t entries, size_t longest, size_t depth, const uint8_t *archive, size_t archive_len,
     uint8_t lower_kind, uint64_t lower, uint8_t upper_kind, uint64_t upper,
     uint64_t *keys, size_t keys_len, uint64_t *values, size_t values_len, uint64_t *matching);
 
@@ -210,7 +231,7 @@ FIELDMAP_MUST_USE int64_t fieldmap_range(
  * 18, where the examination or the eye does not fit its field, comes after 1 to 9.
  */
 FIELDMAP_MUST_USE int64_t fieldmap_column(
-    uint8_t width, size_t entries, const uint8_t *archive, size_t archive_len,
+    uint8_t width, size_t entries, size_t longest, size_t depth, const uint8_t *archive, size_t archive_len,
     uint8_t packing, uint32_t examination, uint8_t eye, int8_t a, int8_t b,
     uint64_t *keys, size_t keys_len, uint64_t *values, size_t values_len, uint64_t *matching);
 

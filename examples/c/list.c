@@ -1,7 +1,7 @@
 /*
  * list FILE PACKING prints what an archive is, and its points. PACKING is how x and y stand in its keys, twos-complement or plus-128, which the
  * archive does not say. It must have the common layout, 32 bits and 5 entries a node, which it does not say either: of one with 64 bits the list
- * is empty.
+ * is empty. It is read with the server's limits.
  *
  * The first line is `certified N`, `open N` where the archive is accepted and not certified, or `refused N: why`. Then comes a line a point, in
  * the order of the walk: the examination, the eye, x and y in degrees, the presentation, whether it was seen, and the threshold. Why an open
@@ -59,7 +59,7 @@ static int print_list(
     const uint8_t *archive, size_t length, uint8_t packing, int certified, uint64_t *keys, uint64_t *values, size_t room)
 {
     uint64_t count;
-    int64_t written = fieldmap_walk(FIELDMAP_COMMON_LAYOUT, archive, length, keys, room, values, room, &count);
+    int64_t written = fieldmap_walk(FIELDMAP_COMMON_LAYOUT, FIELDMAP_SERVER_LIMITS, archive, length, keys, room, values, room, &count);
     if (written < 0)
         return refused(written);
     printf("%s %" PRIu64 "\n", certified ? "certified" : "open", count);
@@ -70,8 +70,8 @@ static int print_list(
 
 static int list(const uint8_t *archive, size_t length, uint8_t packing)
 {
-    int64_t certified = fieldmap_certify(FIELDMAP_COMMON_LAYOUT, archive, length);
-    int64_t count = certified >= 0 ? certified : fieldmap_check(FIELDMAP_COMMON_LAYOUT, archive, length);
+    int64_t certified = fieldmap_certify(FIELDMAP_COMMON_LAYOUT, FIELDMAP_SERVER_LIMITS, archive, length);
+    int64_t count = certified >= 0 ? certified : fieldmap_check(FIELDMAP_COMMON_LAYOUT, FIELDMAP_SERVER_LIMITS, archive, length);
     if (count < 0)
         return refused(count);
     if (certified < 0)
@@ -93,8 +93,8 @@ static int list(const uint8_t *archive, size_t length, uint8_t packing)
 
 int main(int argc, char **argv)
 {
-    /* One byte more than the longest archive, so that a longer file is refused as one. */
-    static uint8_t archive[FIELDMAP_LONGEST_ARCHIVE + 1];
+    /* One byte more than the server's longest archive, so that a longer file is refused as one. */
+    static uint8_t archive[FIELDMAP_SERVER_LONGEST + 1];
     int packing = argc == 3 ? packing_named(argv[2]) : -1;
     if (packing < 0) {
         fprintf(stderr, "usage: list FILE twos-complement|plus-128\n");

@@ -9,11 +9,11 @@ import ctypes as c
 import sys
 
 # What certify refuses by at the common layout, from 1 on, in the words of fieldmap.h.
-REFUSALS = """the archive is longer than 1,048,576 bytes
+REFUSALS = """the archive is too long
 the record or a node leaves its range
 the record or a node is not on its alignment
 a node is neither a leaf nor an inner node
-more than 14 nodes are nested
+the nodes are nested too deep
 a leaf counts more entries than a node may have
 the entries are not as many as recorded
 a leaf is empty, or an inner node has no first child
@@ -24,6 +24,9 @@ PACKINGS = {"twos-complement": 0, "plus-128": 1}
 
 # The archive's layout: the bits of its offsets and counts, and the entries a node.
 LAYOUT = 32, 5
+
+# The server's limits: the longest archive in bytes, and the depth.
+LIMITS = 1048576, 16
 
 
 def fail(*words):
@@ -44,9 +47,9 @@ except OSError as error:
 BITS, BYTES, SIZE, U64 = c.c_uint8, c.c_char_p, c.c_size_t, c.POINTER(c.c_uint64)
 FIELDS = c.c_uint32, c.c_uint8, c.c_int8, c.c_int8, c.c_uint32
 for call, *arguments in [
-    (fieldmap.fieldmap_check, BITS, SIZE, BYTES, SIZE),
-    (fieldmap.fieldmap_certify, BITS, SIZE, BYTES, SIZE),
-    (fieldmap.fieldmap_walk, BITS, SIZE, BYTES, SIZE, U64, SIZE, U64, SIZE, U64),
+    (fieldmap.fieldmap_check, BITS, SIZE, SIZE, SIZE, BYTES, SIZE),
+    (fieldmap.fieldmap_certify, BITS, SIZE, SIZE, SIZE, BYTES, SIZE),
+    (fieldmap.fieldmap_walk, BITS, SIZE, SIZE, SIZE, BYTES, SIZE, U64, SIZE, U64, SIZE, U64),
     (fieldmap.fieldmap_unpack, c.c_uint64, c.c_uint8, *map(c.POINTER, FIELDS)),
     (fieldmap.fieldmap_seen, c.c_uint64),
     (fieldmap.fieldmap_threshold, c.c_uint64),
@@ -58,15 +61,15 @@ def refused(answer):
     return f"refused {-answer}: {REFUSALS[-answer - 1]}"
 
 
-certified = fieldmap.fieldmap_certify(*LAYOUT, archive, len(archive))
-count = certified if certified >= 0 else fieldmap.fieldmap_check(*LAYOUT, archive, len(archive))
+certified = fieldmap.fieldmap_certify(*LAYOUT, *LIMITS, archive, len(archive))
+count = certified if certified >= 0 else fieldmap.fieldmap_check(*LAYOUT, *LIMITS, archive, len(archive))
 if count < 0:
     print(refused(count))
     sys.exit(1)
 if certified < 0:
     print("not certified:", refused(certified), file=sys.stderr)
 keys, values, recorded = (c.c_uint64 * count)(), (c.c_uint64 * count)(), c.c_uint64()
-written = fieldmap.fieldmap_walk(*LAYOUT, archive, len(archive), keys, count, values, count, recorded)
+written = fieldmap.fieldmap_walk(*LAYOUT, *LIMITS, archive, len(archive), keys, count, values, count, recorded)
 print("certified" if certified >= 0 else "open", count)
 for key, value in zip(keys[:written], values[:written]):
     fields = [field() for field in FIELDS]

@@ -6,16 +6,20 @@
 #include <stdio.h>
 #include <stdlib.h>
 
-/* The layout that the calls are given, which is named where something does not hold. */
+#include "fieldmap.h"
+
+/* The layout and the limits that the calls are given, which are named where something does not hold. */
 static uint8_t width;
-static size_t entries;
+static size_t entries, longest = FIELDMAP_SERVER_LONGEST, depth = FIELDMAP_SERVER_DEPTH;
 
 #define LAYOUT width, entries
+#define LIMITS longest, depth
 
 #define EXPECT(holds)                                                                                                                          \
     do {                                                                                                                                       \
         if (!(holds)) {                                                                                                                        \
-            printf("%s:%d: with width %d and %lu entries a node: %s\n", __FILE__, __LINE__, width, (unsigned long)entries, #holds);             \
+            printf("%s:%d: with width %d, %zu entries a node, %zu bytes and depth %zu: %s\n", __FILE__, __LINE__, width, entries,              \
+                   LIMITS, #holds);                                                                                                            \
             exit(1);                                                                                                                           \
         }                                                                                                                                      \
     } while (0)

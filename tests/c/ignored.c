@@ -4,9 +4,9 @@
 int main(void)
 {
 #ifdef LOOKED_AT
-    return fieldmap_check(FIELDMAP_COMMON_LAYOUT, NULL, 0) == -FIELDMAP_INVALID_SUBTREE_POINTER ? 0 : 1;
+    return fieldmap_check(FIELDMAP_COMMON_LAYOUT, FIELDMAP_SERVER_LIMITS, NULL, 0) == -FIELDMAP_INVALID_SUBTREE_POINTER ? 0 : 1;
 #else
-    fieldmap_check(FIELDMAP_COMMON_LAYOUT, NULL, 0);
+    fieldmap_check(FIELDMAP_COMMON_LAYOUT, FIELDMAP_SERVER_LIMITS, NULL, 0);
     return 0;
 #endif
 }

@@ -9,7 +9,7 @@
 #include "fieldmap.h"
 
 static uint64_t keys[FIELDMAP_MOST_ENTRIES];
-static uint8_t out[FIELDMAP_LONGEST_ARCHIVE];
+static uint8_t out[FIELDMAP_SERVER_LONGEST];
 
 /* The widths, each with the bytes of an offset or a count. */
 static const struct bits {
@@ -78,7 +78,7 @@ static void bytes_of_none(size_t number)
         EXPECT(built(0, 5) == (int64_t)end && fieldmap_build_length(LAYOUT, 0, 5) == (int64_t)end);
         EXPECT(all_bytes(0, 5, 0xaa) && all_bytes(5, record, 0) && all_bytes(end, sizeof out, 0xaa));
         EXPECT(number_at(record, number) == 1 && number_at(record + number, number) == 0);
-        EXPECT(fieldmap_certify(LAYOUT, out, end) == 0);
+        EXPECT(fieldmap_certify(LAYOUT, LIMITS, out, end) == 0);
     }
 }
 
@@ -94,7 +94,7 @@ static void by_another_width(size_t own)
         for (size_t i = 0; i < 3; i++) {
             width = widths[i].width;
             int64_t refused = i == own + 2 ? -FIELDMAP_UNALIGNED_POINTER : -FIELDMAP_INVALID_SUBTREE_POINTER;
-            EXPECT(fieldmap_certify(LAYOUT, out, end) == (i == own ? (int64_t)count : i < own ? 0 : refused));
+            EXPECT(fieldmap_certify(LAYOUT, LIMITS, out, end) == (i == own ? (int64_t)count : i < own ? 0 : refused));
         }
     }
 }
@@ -105,9 +105,9 @@ static void by_more_entries(size_t own)
     for (size_t count = 1; count <= 300; count++) {
         entries = own;
         size_t end = (size_t)build(count, 0);
-        EXPECT(fieldmap_certify(LAYOUT, out, end) == (int64_t)count);
+        EXPECT(fieldmap_certify(LAYOUT, LIMITS, out, end) == (int64_t)count);
         for (entries = own + 1; entries <= FIELDMAP_MOST_IN_NODE; entries++)
-            REFUSED(fieldmap_check(LAYOUT, out, end), FIELDMAP_INVALID_SUBTREE_POINTER);
+            REFUSED(fieldmap_check(LAYOUT, LIMITS, out, end), FIELDMAP_INVALID_SUBTREE_POINTER);
     }
 }
 
@@ -126,9 +126,9 @@ static void by_fewer_entries(size_t own, size_t fewer)
         EXPECT(end > 0);
         entries = fewer;
         int64_t refused = value > fewer ? -FIELDMAP_INVALID_LENGTH : -FIELDMAP_ENTRIES_LENGTH_MISMATCH;
-        EXPECT(fieldmap_certify(LAYOUT, out, (size_t)end) == (value == count ? (int64_t)count : refused));
+        EXPECT(fieldmap_certify(LAYOUT, LIMITS, out, (size_t)end) == (value == count ? (int64_t)count : refused));
         if (value == count) {
-            EXPECT(fieldmap_walk(LAYOUT, out, (size_t)end, found, count, theirs, count, &recorded) == (int64_t)count);
+            EXPECT(fieldmap_walk(LAYOUT, LIMITS, out, (size_t)end, found, count, theirs, count, &recorded) == (int64_t)count);
             EXPECT(memcmp(found, keys, count * sizeof *keys) == 0 && theirs[place] == 0);
         }
     }
@@ -138,7 +138,7 @@ static void by_fewer_entries(size_t own, size_t fewer)
 static void most_by_16_bits(size_t most)
 {
     int64_t end = built(most, 0);
-    EXPECT(end > 0 && fieldmap_build_length(LAYOUT, most, 0) == end && fieldmap_certify(LAYOUT, out, (size_t)end) == (int64_t)most);
+    EXPECT(end > 0 && fieldmap_build_length(LAYOUT, most, 0) == end && fieldmap_certify(LAYOUT, LIMITS, out, (size_t)end) == (int64_t)most);
     for (size_t count = most + 1; count <= FIELDMAP_MOST_ENTRIES; count += 1 + count / 100)
         REFUSED(fieldmap_build_length(LAYOUT, count, 0), FIELDMAP_OFFSET_OVERFLOW);
     REFUSED(built(most + 1, FIELDMAP_LONGEST_HEADER), FIELDMAP_OFFSET_OVERFLOW);
@@ -171,11 +171,11 @@ static void largest(uint8_t bits, size_t in_node, int64_t length)
     width = bits;
     entries = in_node;
     EXPECT(built(FIELDMAP_MOST_ENTRIES, 0) == length && fieldmap_build_length(LAYOUT, FIELDMAP_MOST_ENTRIES, 0) == length);
-    EXPECT(fieldmap_certify(LAYOUT, out, (size_t)length) == FIELDMAP_MOST_ENTRIES);
+    EXPECT(fieldmap_certify(LAYOUT, LIMITS, out, (size_t)length) == FIELDMAP_MOST_ENTRIES);
 }
 
 /* Of the most entries behind the longest header no layout makes a longer archive than 64 bits with 3 entries a node. */
-static void longest(void)
+static void longest_of_all(void)
 {
     for (entries = FIELDMAP_FEWEST_IN_NODE; entries <= FIELDMAP_MOST_IN_NODE; entries++) {
         for (width = FIELDMAP_WIDTH_32; width <= FIELDMAP_WIDTH_64; width = (uint8_t)(2 * width)) {
@@ -221,7 +221,7 @@ int main(void)
     largest(FIELDMAP_WIDTH_64, 5, 821376);
     largest(FIELDMAP_WIDTH_32, 15, 692112);
     largest(FIELDMAP_WIDTH_64, 15, 702808);
-    longest();
+    longest_of_all();
     printf("every layout is as it should be\n");
     return 0;
 }

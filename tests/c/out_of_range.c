@@ -7,9 +7,9 @@
 #include "expect.h"
 #include "fieldmap.h"
 
-enum { ROOM = 4, LEAF = 96, LONGEST = FIELDMAP_LONGEST_ARCHIVE + 1 };
+enum { ROOM = 4, LEAF = 96, TOO_LONG = FIELDMAP_SERVER_LONGEST + 1 };
 
-static uint8_t archive[LONGEST], out[LEAF + 16];
+static uint8_t archive[TOO_LONG], out[LEAF + 16];
 static uint64_t keys[ROOM], values[ROOM], many[FIELDMAP_MOST_ENTRIES + 1];
 
 #define OUT_OF_RANGE(call) REFUSED(call, FIELDMAP_ENTRIES_OUT_OF_RANGE)
@@ -20,18 +20,18 @@ static void readers(const uint8_t *bytes, size_t length)
     struct stored one = fresh, other = fresh;
     for (size_t i = 0; i < ROOM; i++)
         keys[i] = values[i] = BEFORE;
-    OUT_OF_RANGE(fieldmap_check(LAYOUT, bytes, length));
-    OUT_OF_RANGE(fieldmap_certify(LAYOUT, bytes, length));
-    OUT_OF_RANGE(fieldmap_lookup(LAYOUT, bytes, length, 1, &one.number, &other.number));
-    OUT_OF_RANGE(fieldmap_lookup_bytes(LAYOUT, bytes, length, 1, &one.number));
+    OUT_OF_RANGE(fieldmap_check(LAYOUT, LIMITS, bytes, length));
+    OUT_OF_RANGE(fieldmap_certify(LAYOUT, LIMITS, bytes, length));
+    OUT_OF_RANGE(fieldmap_lookup(LAYOUT, LIMITS, bytes, length, 1, &one.number, &other.number));
+    OUT_OF_RANGE(fieldmap_lookup_bytes(LAYOUT, LIMITS, bytes, length, 1, &one.number));
     for (size_t room = 0; room <= ROOM; room++) {
-        OUT_OF_RANGE(fieldmap_lookup_many(LAYOUT, bytes, length, many, ROOM, values, room));
-        OUT_OF_RANGE(fieldmap_walk(LAYOUT, bytes, length, keys, ROOM, values, room, &one.number));
-        OUT_OF_RANGE(fieldmap_range(LAYOUT, bytes, length, FIELDMAP_INCLUDED, 1, FIELDMAP_UNBOUNDED, 0, keys, room, values, ROOM, &one.number));
+        OUT_OF_RANGE(fieldmap_lookup_many(LAYOUT, LIMITS, bytes, length, many, ROOM, values, room));
+        OUT_OF_RANGE(fieldmap_walk(LAYOUT, LIMITS, bytes, length, keys, ROOM, values, room, &one.number));
+        OUT_OF_RANGE(fieldmap_range(LAYOUT, LIMITS, bytes, length, FIELDMAP_INCLUDED, 1, FIELDMAP_UNBOUNDED, 0, keys, room, values, ROOM, &one.number));
     }
     for (uint8_t eye = 0; eye <= 2; eye++) {
-        OUT_OF_RANGE(fieldmap_column(LAYOUT, bytes, length, FIELDMAP_TWOS_COMPLEMENT, 0, eye, 0, -1, keys, ROOM, values, ROOM, &one.number));
-        OUT_OF_RANGE(fieldmap_column(LAYOUT, bytes, length, FIELDMAP_PLUS_128, 1 << 24, eye, -128, 127, keys, ROOM, values, ROOM, &one.number));
+        OUT_OF_RANGE(fieldmap_column(LAYOUT, LIMITS, bytes, length, FIELDMAP_TWOS_COMPLEMENT, 0, eye, 0, -1, keys, ROOM, values, ROOM, &one.number));
+        OUT_OF_RANGE(fieldmap_column(LAYOUT, LIMITS, bytes, length, FIELDMAP_PLUS_128, 1 << 24, eye, -128, 127, keys, ROOM, values, ROOM, &one.number));
     }
     EXPECT(memcmp(&one, &fresh, sizeof fresh) == 0 && memcmp(&other, &fresh, sizeof fresh) == 0);
     for (size_t i = 0; i < ROOM; i++)
@@ -67,13 +67,13 @@ static void refused(uint8_t bits, size_t in_node)
     entries = FIELDMAP_COMMON_ENTRIES;
     memset(archive, 0, LEAF + 16);
     int64_t end = fieldmap_build(LAYOUT, archive, LEAF + 16, 0, many, 3, many, 3);
-    EXPECT(end > 0 && fieldmap_certify(LAYOUT, archive, (size_t)end) == 3);
+    EXPECT(end > 0 && fieldmap_certify(LAYOUT, LIMITS, archive, (size_t)end) == 3);
     entries = in_node;
     readers(archive, (size_t)end);
     archive[0] = 2;
     readers(archive, (size_t)end);
     readers(archive, (size_t)end - 1);
-    readers(archive, LONGEST);
+    readers(archive, TOO_LONG);
     readers(NULL, 0);
     builds();
 }

@@ -16,8 +16,8 @@
 
 #include "fieldmap.h"
 
-/* One node more than may be nested. */
-enum { STACK = 1 << 18, KEYS = 8, NESTED = FIELDMAP_MOST_NESTED + 1 };
+/* One node more than may be nested with the server's limits, by which the calls read. */
+enum { STACK = 1 << 18, KEYS = 8, NESTED = FIELDMAP_SERVER_DEPTH - 1 };
 
 /* The key of the lowest leaf, and how far the keys of a node stand from those of the next. */
 enum { SOUGHT = 999, STEP = 20 };
@@ -38,24 +38,25 @@ static struct {
 static uint8_t stack[STACK] __attribute__((aligned(64)));
 static ucontext_t here, there;
 
-static uint8_t archive[FIELDMAP_LONGEST_ARCHIVE];
+static uint8_t archive[FIELDMAP_SERVER_LONGEST];
 static size_t length, entries;
 static uint64_t keys[FIELDMAP_MOST_ENTRIES], values[FIELDMAP_MOST_ENTRIES], number, position;
 static volatile int64_t answer;
 
 #define LAYOUT layout.bits, layout.in_node
+#define LIMITS FIELDMAP_SERVER_LIMITS
 #define LISTS keys, FIELDMAP_MOST_ENTRIES, values, FIELDMAP_MOST_ENTRIES
 
 static void nothing(void) { answer = 0; }
-static void check(void) { answer = fieldmap_check(LAYOUT, archive, length); }
-static void certify(void) { answer = fieldmap_certify(LAYOUT, archive, length); }
-static void lookup(void) { answer = fieldmap_lookup(LAYOUT, archive, length, SOUGHT, &number, &position); }
-static void lookup_bytes(void) { answer = fieldmap_lookup_bytes(LAYOUT, archive, length, SOUGHT, &position); }
-static void lookup_many(void) { answer = fieldmap_lookup_many(LAYOUT, archive, length, LISTS); }
-static void walk(void) { answer = fieldmap_walk(LAYOUT, archive, length, LISTS, &number); }
-static void range(void) { answer = fieldmap_range(LAYOUT, archive, length, FIELDMAP_EXCLUDED, 0, FIELDMAP_EXCLUDED, UINT64_MAX, LISTS, &number); }
-static void old_column(void) { answer = fieldmap_column(LAYOUT, archive, length, FIELDMAP_TWOS_COMPLEMENT, 0, 0, 0, -1, LISTS, &number); }
-static void new_column(void) { answer = fieldmap_column(LAYOUT, archive, length, FIELDMAP_PLUS_128, 0, 0, -128, 127, LISTS, &number); }
+static void check(void) { answer = fieldmap_check(LAYOUT, LIMITS, archive, length); }
+static void certify(void) { answer = fieldmap_certify(LAYOUT, LIMITS, archive, length); }
+static void lookup(void) { answer = fieldmap_lookup(LAYOUT, LIMITS, archive, length, SOUGHT, &number, &position); }
+static void lookup_bytes(void) { answer = fieldmap_lookup_bytes(LAYOUT, LIMITS, archive, length, SOUGHT, &position); }
+static void lookup_many(void) { answer = fieldmap_lookup_many(LAYOUT, LIMITS, archive, length, LISTS); }
+static void walk(void) { answer = fieldmap_walk(LAYOUT, LIMITS, archive, length, LISTS, &number); }
+static void range(void) { answer = fieldmap_range(LAYOUT, LIMITS, archive, length, FIELDMAP_EXCLUDED, 0, FIELDMAP_EXCLUDED, UINT64_MAX, LISTS, &number); }
+static void old_column(void) { answer = fieldmap_column(LAYOUT, LIMITS, archive, length, FIELDMAP_TWOS_COMPLEMENT, 0, 0, 0, -1, LISTS, &number); }
+static void new_column(void) { answer = fieldmap_column(LAYOUT, LIMITS, archive, length, FIELDMAP_PLUS_128, 0, 0, -128, 127, LISTS, &number); }
 static void build(void) { answer = fieldmap_build(LAYOUT, archive, sizeof archive, 0, keys, entries, values, entries); }
 static void build_length(void) { answer = fieldmap_build_length(LAYOUT, entries, 0); }
 
@@ -160,7 +161,7 @@ static int longest(void)
     size_t end = (size_t)answer, start = (sizeof archive - end) / 8 * 8;
     length = start + end;
     memmove(archive + start, archive, end);
-    return fieldmap_certify(LAYOUT, archive, length) == (int64_t)entries;
+    return fieldmap_certify(LAYOUT, LIMITS, archive, length) == (int64_t)entries;
 }
 
 static int measure_by_layout(void)
@@ -177,7 +178,7 @@ static int measure_by_layout(void)
     const size_t children[3] = {0, 1, layout.in_node};
     for (size_t i = 0; i < NESTED * 3; i++) {
         size_t nodes = 1 + i / 3, count = nest(nodes, children[i % 3]);
-        if (fieldmap_certify(LAYOUT, archive, length) != (nodes < NESTED ? (int64_t)count : -FIELDMAP_EXCEEDED_MAXIMUM_SUBTREE_DEPTH))
+        if (fieldmap_certify(LAYOUT, LIMITS, archive, length) != (nodes < NESTED ? (int64_t)count : -FIELDMAP_EXCEEDED_MAXIMUM_SUBTREE_DEPTH))
             return 0;
         measure(0, READERS);
     }

@@ -6,10 +6,10 @@ mod aligned;
 use std::collections::BTreeMap;
 use std::ops::{Bound, ControlFlow, RangeBounds};
 
-use compare::model::{crosses, Layout, LONGEST};
+use compare::model::{crosses, Layout, SERVER};
 use compare::rkyv_map;
 use compare::trees::{self, Random};
-use fieldmap::Width;
+use fieldmap::{Limits, Width};
 use fieldmap_rkyv::{accepted, accepted_of, certified, certified_of, Map, MapOf, Refused, WIDTH};
 use rkyv::rancor::Error;
 use rkyv::rend::u64_le;
@@ -28,9 +28,9 @@ fn native((key, value): (&u64_le, &u64_le)) -> (u64, u64) {
 
 /// The entries of the proved walk.
 fn walk(layout: fieldmap::Layout, bytes: &[u8]) -> Entries {
-    let count = fieldmap::check_at(layout, bytes).unwrap();
+    let count = fieldmap::check_at(layout, Limits::SERVER, bytes).unwrap();
     let (mut keys, mut values) = (vec![0; count], vec![0; count]);
-    let walked = fieldmap::walk_at(layout, bytes, &mut keys, &mut values).unwrap();
+    let walked = fieldmap::walk_at(layout, Limits::SERVER, bytes, &mut keys, &mut values).unwrap();
     assert_eq!((walked.written, walked.count), (count, count));
     keys.into_iter().zip(values).collect()
 }
@@ -51,7 +51,7 @@ fn holds_accepted<const E: usize>(bytes: &[u8], map: &MapOf<E>, random: &mut Ran
     let keys: Vec<u64> = entries.iter().map(|entry| entry.0).collect();
     for key in trees::sought(&keys, 8, random) {
         let value = map.get(&u64_le::from_native(key));
-        let found = fieldmap::lookup_at(layout, bytes, key).unwrap();
+        let found = fieldmap::lookup_at(layout, Limits::SERVER, bytes, key).unwrap();
         let found = found.map(|entry| entry.value);
         assert_eq!(value.map(|value| value.to_native()), found);
     }
@@ -117,7 +117,7 @@ fn generated<const E: usize>(seeds: u64, least: usize) {
     let (layout, mut outcomes) = (layout(E), BTreeMap::new());
     for seed in 0..seeds {
         let bytes = aligned::copy(&trees::archive_at(layout, seed, 1_000));
-        let fault = layout.certify(&bytes).err();
+        let fault = layout.certify(SERVER, &bytes).err();
         holds::<E>(&bytes, fault, &mut Random::new(seed));
         *outcomes.entry(fault).or_insert(0) += 1;
     }
@@ -161,7 +161,7 @@ fn calls_without_entries() {
 /// An archive that is too long, as rkyv would take it.
 #[test]
 fn too_long() {
-    let mut bytes = vec![0; LONGEST];
+    let mut bytes = vec![0; Limits::SERVER.longest];
     bytes.extend(rkyv_map::build(&[], &[7], &[9]));
     let bytes = aligned::copy(&bytes);
     assert!(rkyv::access::<Map, Error>(&bytes).is_ok());

@@ -1,6 +1,6 @@
 //! Bytes that have passed the check, as a type.
 
-use crate::{Certified, Entry, Layout, Refusal, Walked, Width};
+use crate::{Certified, Entry, Layout, Limits, Refusal, Walked, Width};
 
 /// Why a reader does not refuse bytes that passed before.
 pub(crate) const PASSED: &str = "the same bytes passed before";
@@ -25,6 +25,7 @@ pub(crate) const PASSED: &str = "the same bytes passed before";
 #[derive(Clone, Copy, Debug, PartialEq, Eq, Hash)]
 pub struct Archive<'a> {
     layout: Layout,
+    limits: Limits,
     bytes: &'a [u8],
     count: usize,
 }
@@ -44,33 +45,34 @@ impl<'a> Archive<'a> {
     /// # Ok::<(), Refusal>(())
     /// ```
     pub fn check(bytes: &'a [u8]) -> Result<Self, Refusal> {
-        Self::check_at(Layout::COMMON, bytes)
+        Self::check_at(Layout::COMMON, Limits::SERVER, bytes)
     }
 
-    /// The archive of a layout, if [`check_at`](crate::check_at()) accepts it. Its readers read by that layout.
+    /// The archive of a layout, if [`check_at`](crate::check_at()) accepts it with the limits. Its readers read by both.
     ///
     /// # Errors
     ///
     /// The first fault of 1 to 7.
     ///
     /// ```
-    /// use fieldmap::{Archive, Layout, Width};
+    /// use fieldmap::{Archive, Layout, Limits, Width};
     ///
     /// let (mut bytes, layout) = ([0; 68], Layout::new(Width::Bits16, 3)?);
     /// fieldmap::build_at(layout, &mut bytes, 0, &[1, 5, 9], &[10, 50, 90])?;
-    /// let archive = Archive::check_at(layout, &bytes)?;
+    /// let archive = Archive::check_at(layout, Limits::VIEWER, &bytes)?;
     /// assert_eq!(archive.get(9).map(|entry| entry.value), Some(90));
     /// # Ok::<(), fieldmap::Refusal>(())
     /// ```
-    pub fn check_at(layout: Layout, bytes: &'a [u8]) -> Result<Self, Refusal> {
-        let count = crate::check_at(layout, bytes)?;
-        Ok(Self::passed(layout, bytes, count))
+    pub fn check_at(layout: Layout, limits: Limits, bytes: &'a [u8]) -> Result<Self, Refusal> {
+        let count = crate::check_at(layout, limits, bytes)?;
+        Ok(Self::passed(layout, limits, bytes, count))
     }
 
     /// The archive whose recorded count the check or certification has just given.
-    pub(crate) fn passed(layout: Layout, bytes: &'a [u8], count: usize) -> Self {
+    pub(crate) fn passed(layout: Layout, limits: Limits, bytes: &'a [u8], count: usize) -> Self {
         Self {
             layout,
+            limits,
             bytes,
             count,
         }
@@ -79,11 +81,11 @@ impl<'a> Archive<'a> {
     /// The layout that it was checked by, and is read by.
     ///
     /// ```
-    /// use fieldmap::{Archive, Layout, Width};
+    /// use fieldmap::{Archive, Layout, Limits, Width};
     ///
     /// let layout = Layout::new(Width::Bits16, 15)?;
     /// assert_eq!(Archive::check(&[1, 0, 0, 0, 0, 0, 0, 0])?.layout(), Layout::COMMON);
-    /// assert_eq!(Archive::check_at(layout, &[1, 0, 0, 0])?.layout(), layout);
+    /// assert_eq!(Archive::check_at(layout, Limits::SERVER, &[1, 0, 0, 0])?.layout(), layout);
     /// # Ok::<(), fieldmap::Refusal>(())
     /// ```
     #[must_use]
@@ -97,12 +99,27 @@ impl<'a> Archive<'a> {
     /// use fieldmap::{Archive, Width};
     ///
     /// assert_eq!(Archive::check(&[1, 0, 0, 0, 0, 0, 0, 0])?.width(), Width::Bits32);
-    /// assert_eq!(Archive::check_at(Width::Bits16.into(), &[1, 0, 0, 0])?.width(), Width::Bits16);
     /// # Ok::<(), fieldmap::Refusal>(())
     /// ```
     #[must_use]
     pub fn width(self) -> Width {
         self.layout.width()
+    }
+
+    /// The limits that it was checked with, and is read with.
+    ///
+    /// ```
+    /// use fieldmap::{Archive, Layout, Limits};
+    ///
+    /// let bytes = [1, 0, 0, 0, 0, 0, 0, 0];
+    /// assert_eq!(Archive::check(&bytes)?.limits(), Limits::SERVER);
+    /// let viewed = Archive::check_at(Layout::COMMON, Limits::VIEWER, &bytes)?;
+    /// assert_eq!(viewed.limits(), Limits::VIEWER);
+    /// # Ok::<(), fieldmap::Refusal>(())
+    /// ```
+    #[must_use]
+    pub fn limits(self) -> Limits {
+        self.limits
     }
 
     /// The archive's bytes.
@@ -172,7 +189,7 @@ impl<'a> Archive<'a> {
     /// ```
     #[must_use]
     pub fn get(self, key: u64) -> Option<Entry> {
-        crate::lookup_at(self.layout, self.bytes, key).expect(PASSED)
+        crate::lookup_at(self.layout, self.limits, self.bytes, key).expect(PASSED)
     }
 
     /// The eight bytes of the value that [`get`](Self::get) finds, as a part of the archive, or the empty part. It misses what `get` misses.
@@ -187,7 +204,7 @@ impl<'a> Archive<'a> {
     /// ```
     #[must_use]
     pub fn get_bytes(self, key: u64) -> &'a [u8] {
-        crate::lookup_bytes_at(self.layout, self.bytes, key)
+        crate::lookup_bytes_at(self.layout, self.limits, self.bytes, key)
     }
 
     /// Looks up keys after one check, as [`lookup_many`](crate::lookup_many()) does, and gives the number found. It misses what
@@ -206,7 +223,7 @@ impl<'a> Archive<'a> {
     /// # Ok::<(), fieldmap::Refusal>(())
     /// ```
     pub fn get_many(self, keys: &[u64], values: &mut [u64]) -> usize {
-        crate::lookup_many_at(self.layout, self.bytes, keys, values).expect(PASSED)
+        crate::lookup_many_at(self.layout, self.limits, self.bytes, keys, values).expect(PASSED)
     }
 
     /// Whether [`get`](Self::get) finds an entry. It misses what `get` misses.
@@ -241,11 +258,11 @@ impl<'a> Archive<'a> {
     /// # Ok::<(), fieldmap::Refusal>(())
     /// ```
     pub fn walk(self, keys: &mut [u64], values: &mut [u64]) -> Walked {
-        crate::walk_at(self.layout, self.bytes, keys, values).expect(PASSED)
+        crate::walk_at(self.layout, self.limits, self.bytes, keys, values).expect(PASSED)
     }
 
-    /// The same archive, if [`certify_at`](crate::certify_at()) accepts it by its layout. That checks again; [`Certified::certify_at`] takes bytes
-    /// and checks once.
+    /// The same archive, if [`certify_at`](crate::certify_at()) accepts it by its layout and with its limits. That checks again;
+    /// [`Certified::certify_at`] takes bytes and checks once.
     ///
     /// # Errors
     ///
@@ -258,6 +275,6 @@ impl<'a> Archive<'a> {
     /// # Ok::<(), fieldmap::Refusal>(())
     /// ```
     pub fn certify(self) -> Result<Certified<'a>, Refusal> {
-        Certified::certify_at(self.layout, self.bytes)
+        Certified::certify_at(self.layout, self.limits, self.bytes)
     }
 }

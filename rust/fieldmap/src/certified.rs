@@ -1,9 +1,8 @@
 //! Bytes that have passed certification, as a type.
 
-use core::ops::RangeBounds;
+mod ranges;
 
-use crate::archive::PASSED;
-use crate::{Archive, Entry, Layout, Matched, Packing, Refusal, Walked, Width};
+use crate::{Archive, Entry, Layout, Limits, Refusal, Walked, Width};
 
 /// A certified archive: its keys strictly ascend and no node is hollow.
 ///
@@ -43,37 +42,37 @@ impl<'a> Certified<'a> {
     /// # Ok::<(), Refusal>(())
     /// ```
     pub fn certify(bytes: &'a [u8]) -> Result<Self, Refusal> {
-        Self::certify_at(Layout::COMMON, bytes)
+        Self::certify_at(Layout::COMMON, Limits::SERVER, bytes)
     }
 
-    /// The archive of a layout, if [`certify_at`](crate::certify_at()) accepts it. Its readers read by that layout.
+    /// The archive of a layout, if [`certify_at`](crate::certify_at()) accepts it with the limits. Its readers read by both.
     ///
     /// # Errors
     ///
     /// The first fault of 1 to 9.
     ///
     /// ```
-    /// use fieldmap::{Certified, Layout, Width};
+    /// use fieldmap::{Certified, Layout, Limits, Width};
     ///
     /// let (mut bytes, layout) = ([0; 272], Layout::new(Width::Bits64, 15)?);
     /// fieldmap::build_at(layout, &mut bytes, 0, &[1, 5, 9], &[10, 50, 90])?;
-    /// let certified = Certified::certify_at(layout, &bytes)?;
+    /// let certified = Certified::certify_at(layout, Limits::VIEWER, &bytes)?;
     /// assert_eq!(certified.get(5).map(|entry| entry.value), Some(50));
     /// # Ok::<(), fieldmap::Refusal>(())
     /// ```
-    pub fn certify_at(layout: Layout, bytes: &'a [u8]) -> Result<Self, Refusal> {
-        let count = crate::certify_at(layout, bytes)?;
-        let archive = Archive::passed(layout, bytes, count);
+    pub fn certify_at(layout: Layout, limits: Limits, bytes: &'a [u8]) -> Result<Self, Refusal> {
+        let count = crate::certify_at(layout, limits, bytes)?;
+        let archive = Archive::passed(layout, limits, bytes, count);
         Ok(Self { archive })
     }
 
     /// The layout that it was certified by, and is read by.
     ///
     /// ```
-    /// use fieldmap::{Certified, Layout, Width};
+    /// use fieldmap::{Certified, Layout, Limits, Width};
     ///
     /// let layout = Layout::new(Width::Bits16, 15)?;
-    /// assert_eq!(Certified::certify_at(layout, &[1, 0, 0, 0])?.layout(), layout);
+    /// assert_eq!(Certified::certify_at(layout, Limits::SERVER, &[1, 0, 0, 0])?.layout(), layout);
     /// # Ok::<(), fieldmap::Refusal>(())
     /// ```
     #[must_use]
@@ -84,14 +83,30 @@ impl<'a> Certified<'a> {
     /// The width of its [`layout`](Self::layout).
     ///
     /// ```
-    /// use fieldmap::{Certified, Width};
+    /// use fieldmap::{Certified, Limits, Width};
     ///
-    /// assert_eq!(Certified::certify_at(Width::Bits16.into(), &[1, 0, 0, 0])?.width(), Width::Bits16);
+    /// let certified = Certified::certify_at(Width::Bits16.into(), Limits::SERVER, &[1, 0, 0, 0])?;
+    /// assert_eq!(certified.width(), Width::Bits16);
     /// # Ok::<(), fieldmap::Refusal>(())
     /// ```
     #[must_use]
     pub fn width(self) -> Width {
         self.archive.width()
+    }
+
+    /// The limits that it was certified with, and is read with.
+    ///
+    /// ```
+    /// use fieldmap::{Certified, Layout, Limits};
+    ///
+    /// let bytes = [1, 0, 0, 0, 0, 0, 0, 0];
+    /// let viewed = Certified::certify_at(Layout::COMMON, Limits::VIEWER, &bytes)?;
+    /// assert_eq!(viewed.limits(), Limits::VIEWER);
+    /// # Ok::<(), fieldmap::Refusal>(())
+    /// ```
+    #[must_use]
+    pub fn limits(self) -> Limits {
+        self.archive.limits()
     }
 
     /// The same archive as an accepted one.
@@ -239,61 +254,5 @@ impl<'a> Certified<'a> {
     /// ```
     pub fn walk(self, keys: &mut [u64], values: &mut [u64]) -> Walked {
         self.archive.walk(keys, values)
-    }
-
-    /// Writes keys and values of the entries that meet both bounds until the shorter list is full, and counts them all. Where the bounds cross,
-    /// nothing matches.
-    ///
-    /// # Panics
-    ///
-    /// As [`get`](Self::get).
-    ///
-    /// ```
-    /// # let mut bytes = [0; 104];
-    /// # fieldmap::build(&mut bytes, 0, &[1, 5, 9], &[10, 50, 90])?;
-    /// let (mut keys, mut values) = ([0; 1], [0; 1]);
-    /// let matched = fieldmap::Certified::certify(&bytes)?.range(5.., &mut keys, &mut values);
-    /// assert_eq!((matched.written, matched.matching, values), (1, 2, [50]));
-    /// # Ok::<(), fieldmap::Refusal>(())
-    /// ```
-    pub fn range(
-        self,
-        bounds: impl RangeBounds<u64>,
-        keys: &mut [u64],
-        values: &mut [u64],
-    ) -> Matched {
-        crate::range_at(self.layout(), self.bytes(), bounds, keys, values).expect(PASSED)
-    }
-
-    /// The points of one eye of one examination with x in a range of degrees, the keys being of the named packing. [`column`](crate::column())
-    /// says what a range on both sides of 0 gives by [`Packing::TwosComplement`].
-    ///
-    /// # Errors
-    ///
-    /// 18, where the examination or the eye does not fit its field.
-    ///
-    /// ```
-    /// use fieldmap::{Certified, Key, Packing::Plus128};
-    ///
-    /// let key = Key { examination: 1, eye: Key::LEFT, x: -15, y: 3, presentation: 0 };
-    /// let mut bytes = [0; 104];
-    /// fieldmap::build(&mut bytes, 0, &[key.pack(Plus128)?], &[9])?;
-    /// let certified = Certified::certify(&bytes)?;
-    /// let (mut keys, mut values) = ([0; 1], [0; 1]);
-    /// let matched = certified.column(Plus128, 1, Key::LEFT, -20..=20, &mut keys, &mut values)?;
-    /// assert_eq!((matched.written, Key::unpack(keys[0], Plus128)), (1, key));
-    /// # Ok::<(), fieldmap::Refusal>(())
-    /// ```
-    pub fn column(
-        self,
-        packing: Packing,
-        examination: u32,
-        eye: u8,
-        x: impl RangeBounds<i8>,
-        keys: &mut [u64],
-        values: &mut [u64],
-    ) -> Result<Matched, Refusal> {
-        let (layout, bytes) = (self.layout(), self.bytes());
-        crate::column_at(layout, bytes, packing, examination, eye, x, keys, values)
     }
 }

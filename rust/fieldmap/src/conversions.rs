@@ -5,7 +5,7 @@ use crate::{Archive, Certified, Refusal};
 impl<'a> TryFrom<&'a [u8]> for Archive<'a> {
     type Error = Refusal;
 
-    /// As [`Archive::check`], by [`Layout::COMMON`](crate::Layout::COMMON).
+    /// As [`Archive::check`], by [`Layout::COMMON`](crate::Layout::COMMON) and [`Limits::SERVER`](crate::Limits::SERVER).
     ///
     /// ```
     /// let bytes: &[u8] = &[1, 0, 0, 0, 0, 0, 0, 0];
@@ -34,7 +34,7 @@ impl AsRef<[u8]> for Archive<'_> {
 impl<'a> TryFrom<&'a [u8]> for Certified<'a> {
     type Error = Refusal;
 
-    /// As [`Certified::certify`], by [`Layout::COMMON`](crate::Layout::COMMON).
+    /// As [`Certified::certify`], by [`Layout::COMMON`](crate::Layout::COMMON) and [`Limits::SERVER`](crate::Limits::SERVER).
     ///
     /// ```
     /// let bytes: &[u8] = &[1, 0, 0, 0, 0, 0, 0, 0];

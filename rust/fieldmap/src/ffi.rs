@@ -10,13 +10,29 @@ pub use archives::{
 };
 
 extern "C" {
-    fn fieldmap_check(width: u8, entries: usize, archive: *const u8, archive_len: usize) -> i64;
+    fn fieldmap_check(
+        width: u8,
+        entries: usize,
+        longest: usize,
+        depth: usize,
+        archive: *const u8,
+        archive_len: usize,
+    ) -> i64;
 
-    fn fieldmap_certify(width: u8, entries: usize, archive: *const u8, archive_len: usize) -> i64;
+    fn fieldmap_certify(
+        width: u8,
+        entries: usize,
+        longest: usize,
+        depth: usize,
+        archive: *const u8,
+        archive_len: usize,
+    ) -> i64;
 
     fn fieldmap_lookup(
         width: u8,
         entries: usize,
+        longest: usize,
+        depth: usize,
         archive: *const u8,
         archive_len: usize,
         key: u64,
@@ -27,6 +43,8 @@ extern "C" {
     fn fieldmap_lookup_bytes(
         width: u8,
         entries: usize,
+        longest: usize,
+        depth: usize,
         archive: *const u8,
         archive_len: usize,
         key: u64,
@@ -36,6 +54,8 @@ extern "C" {
     fn fieldmap_lookup_many(
         width: u8,
         entries: usize,
+        longest: usize,
+        depth: usize,
         archive: *const u8,
         archive_len: usize,
         keys: *const u64,
@@ -47,6 +67,8 @@ extern "C" {
     fn fieldmap_walk(
         width: u8,
         entries: usize,
+        longest: usize,
+        depth: usize,
         archive: *const u8,
         archive_len: usize,
         keys: *mut u64,
@@ -59,6 +81,8 @@ extern "C" {
     fn fieldmap_range(
         width: u8,
         entries: usize,
+        longest: usize,
+        depth: usize,
         archive: *const u8,
         archive_len: usize,
         lower_kind: u8,
@@ -75,6 +99,8 @@ extern "C" {
     fn fieldmap_column(
         width: u8,
         entries: usize,
+        longest: usize,
+        depth: usize,
         archive: *const u8,
         archive_len: usize,
         packing: u8,

@@ -6,16 +6,18 @@ use crate::{Refusal, Width, FEWEST_IN_NODE, MOST_IN_NODE};
 /// `ArchivedBTreeMap`. An archive does not say which layout it has, so the caller names it.
 ///
 /// A call without a layout reads and writes archives of [`Layout::COMMON`], rkyv's own at its defaults: 32 bits and 5 entries a node. The call of
-/// the same name and `_at` takes the layout first. A value of this type is a layout that every call takes: what a call would refuse by
-/// [`EntriesOutOfRange`](Refusal::EntriesOutOfRange) before every other refusal, [`new`](Self::new) refuses.
+/// the same name and `_at` takes the layout first and, if it reads an archive, [`Limits`](crate::Limits) behind it. A value of this type is a layout
+/// that every call takes: what a call would refuse by [`EntriesOutOfRange`](Refusal::EntriesOutOfRange) before every other refusal,
+/// [`new`](Self::new) refuses.
 ///
 /// ```
-/// use fieldmap::{Certified, Layout, Width};
+/// use fieldmap::{Certified, Layout, Limits, Width};
 ///
 /// let wide = Layout::new(Width::Bits64, 15)?;
 /// let mut archive = vec![0; fieldmap::build_length_at(wide, 3, 0)?];
 /// fieldmap::build_at(wide, &mut archive, 0, &[1, 5, 9], &[10, 50, 90])?;
-/// assert_eq!(Certified::certify_at(wide, &archive)?.get(5).map(|entry| entry.value), Some(50));
+/// let certified = Certified::certify_at(wide, Limits::SERVER, &archive)?;
+/// assert_eq!(certified.get(5).map(|entry| entry.value), Some(50));
 /// # Ok::<(), fieldmap::Refusal>(())
 /// ```
 ///
@@ -36,18 +38,19 @@ use crate::{Refusal, Width, FEWEST_IN_NODE, MOST_IN_NODE};
 /// certification, it can show values that it does not have:
 ///
 /// ```
-/// use fieldmap::{Layout, Refusal, Width};
+/// use fieldmap::{certify_at, lookup_at, Layout, Limits, Refusal, Width};
 ///
+/// let limits = Limits::SERVER;
 /// let (three, six) = (Layout::new(Width::Bits32, 3)?, Layout::new(Width::Bits32, 6)?);
 /// let mut archive = [0; 104];
 /// fieldmap::build(&mut archive, 0, &[1, 5], &[10, 50])?;
-/// assert_eq!(fieldmap::certify_at(six, &archive), Err(Refusal::InvalidSubtreePointer));
-/// assert_eq!(fieldmap::certify_at(three, &archive), Err(Refusal::InvalidLength));
+/// assert_eq!(certify_at(six, limits, &archive), Err(Refusal::InvalidSubtreePointer));
+/// assert_eq!(certify_at(three, limits, &archive), Err(Refusal::InvalidLength));
 ///
 /// // With three entries a node, the second value stands where the leaf's count is.
 /// fieldmap::build(&mut archive, 0, &[1, 5], &[10, 2])?;
-/// assert_eq!(fieldmap::certify_at(three, &archive), Ok(2));
-/// assert_eq!(fieldmap::lookup_at(three, &archive, 1)?.map(|entry| entry.value), Some(0));
+/// assert_eq!(certify_at(three, limits, &archive), Ok(2));
+/// assert_eq!(lookup_at(three, limits, &archive, 1)?.map(|entry| entry.value), Some(0));
 /// # Ok::<(), Refusal>(())
 /// ```
 ///

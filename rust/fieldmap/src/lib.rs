@@ -38,14 +38,33 @@
 //! [`Layout`] say what becomes of an archive that is read by another one.
 //!
 //! ```
-//! use fieldmap::{Certified, Layout, Width};
+//! use fieldmap::{Certified, Layout, Limits, Width};
 //!
 //! let layout = Layout::new(Width::Bits64, 15)?;
 //! let mut out = vec![0; fieldmap::build_length_at(layout, 3, 0)?];
 //! fieldmap::build_at(layout, &mut out, 0, &[1, 5, 9], &[10, 50, 90])?;
-//! let archive = Certified::certify_at(layout, &out)?;
+//! let archive = Certified::certify_at(layout, Limits::SERVER, &out)?;
 //! assert_eq!(archive.get(5).map(|entry| entry.value), Some(50));
 //! # Ok::<(), fieldmap::Refusal>(())
+//! ```
+//!
+//! # Limits
+//!
+//! Each caller names how much it reads: the longest archive, and the depth that the check starts with. The calls without `_at` read by
+//! [`Limits::SERVER`], archives of up to 1,048,576 bytes with up to 14 nested nodes. Those with `_at` that read an archive take [`Limits`] behind
+//! the layout: [`Limits::VIEWER`], 4,096 bytes and three nested nodes, or any other. Limits above the server's count as the server's. [`Archive`]
+//! and [`Certified`] keep the limits that they were opened by.
+//!
+//! ```
+//! use fieldmap::{Certified, Layout, Limits, Refusal};
+//!
+//! let keys: Vec<u64> = (1..=300).collect();
+//! let mut out = vec![0; fieldmap::build_length(keys.len(), 0)?];
+//! fieldmap::build(&mut out, 0, &keys, &keys)?;
+//! let viewed = Certified::certify_at(Layout::COMMON, Limits::VIEWER, &out);
+//! assert_eq!(viewed, Err(Refusal::ArchiveTooLong));
+//! assert_eq!(Certified::certify_at(Layout::COMMON, Limits::SERVER, &out)?.len(), 300);
+//! # Ok::<(), Refusal>(())
 //! ```
 //!
 //! # The check on every call
@@ -75,6 +94,8 @@ mod conversions;
 mod ffi;
 mod key;
 mod layout;
+mod limits;
+mod lookups;
 #[cfg(feature = "alloc")]
 mod owned;
 mod packing;
@@ -90,24 +111,19 @@ pub use builder::{build, build_at, build_length, build_length_at};
 pub use certified::Certified;
 pub use key::Key;
 pub use layout::Layout;
+pub use limits::Limits;
+pub use lookups::{
+    lookup, lookup_at, lookup_bytes, lookup_bytes_at, lookup_many, lookup_many_at, Entry,
+};
 #[cfg(feature = "alloc")]
 pub use owned::{archive_of, archive_of_at};
 pub use packing::Packing;
 pub use parts::{absent_offset, align, offset32, signed_offset, Aligned};
 pub use ranges::{column, column_at, range, range_at, Matched};
-pub use readers::{
-    certify, certify_at, check, check_at, lookup, lookup_at, lookup_bytes, lookup_bytes_at,
-    lookup_many, lookup_many_at, walk, walk_at, Entry, Walked,
-};
+pub use readers::{certify, certify_at, check, check_at, walk, walk_at, Walked};
 pub use refusal::{NoSuchRefusal, Refusal};
 pub use value::Value;
 pub use width::Width;
-
-/// The longest archive in bytes.
-pub const LONGEST_ARCHIVE: usize = 1_048_576;
-
-/// The most nodes below each other.
-pub const MOST_NESTED: usize = 14;
 
 /// The fewest entries a node that a [`Layout`] can have.
 pub const FEWEST_IN_NODE: usize = 3;

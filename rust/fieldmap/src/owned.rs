@@ -33,12 +33,12 @@ pub fn archive_of(map: &BTreeMap<u64, u64>) -> Result<Vec<u8>, Refusal> {
 ///
 /// ```
 /// use std::collections::BTreeMap;
-/// use fieldmap::{archive_of_at, Certified, Layout, Width};
+/// use fieldmap::{archive_of_at, Certified, Layout, Limits, Width};
 ///
 /// let map = BTreeMap::from([(1, 10), (5, 50), (9, 90)]);
 /// let layout = Layout::new(Width::Bits16, 3)?;
 /// let bytes = archive_of_at(layout, &map)?;
-/// assert_eq!(Certified::certify_at(layout, &bytes)?.to_map(), map);
+/// assert_eq!(Certified::certify_at(layout, Limits::SERVER, &bytes)?.to_map(), map);
 /// # Ok::<(), fieldmap::Refusal>(())
 /// ```
 pub fn archive_of_at(layout: Layout, map: &BTreeMap<u64, u64>) -> Result<Vec<u8>, Refusal> {

@@ -5,7 +5,7 @@ use core::ops::{Bound, RangeBounds};
 
 use crate::ffi;
 use crate::refusal::{answer, Refusal};
-use crate::{Layout, Packing};
+use crate::{Layout, Limits, Packing};
 
 /// What a range answers.
 #[must_use]
@@ -41,28 +41,36 @@ pub fn range(
     keys: &mut [u64],
     values: &mut [u64],
 ) -> Result<Matched, Refusal> {
-    range_at(Layout::COMMON, archive, bounds, keys, values)
+    range_at(
+        Layout::COMMON,
+        Limits::SERVER,
+        archive,
+        bounds,
+        keys,
+        values,
+    )
 }
 
-/// As [`range`], of an archive of a layout.
+/// As [`range`], of an archive of a layout and with limits.
 ///
 /// # Errors
 ///
 /// The first fault of 1 to 9.
 ///
 /// ```
-/// use fieldmap::{range_at, Layout, Width};
+/// use fieldmap::{range_at, Layout, Limits, Width};
 ///
 /// let layout = Layout::new(Width::Bits16, 3)?;
 /// let (mut archive, mut keys, mut values) = ([0; 68], [0; 2], [0; 2]);
 /// fieldmap::build_at(layout, &mut archive, 0, &[1, 5, 9], &[10, 50, 90])?;
-/// let matched = range_at(layout, &archive, 2..=9, &mut keys, &mut values)?;
+/// let matched = range_at(layout, Limits::VIEWER, &archive, 2..=9, &mut keys, &mut values)?;
 /// assert_eq!((matched.matching, keys), (2, [5, 9]));
 /// # Ok::<(), fieldmap::Refusal>(())
 /// ```
 #[inline]
 pub fn range_at(
     layout: Layout,
+    limits: Limits,
     archive: &[u8],
     bounds: impl RangeBounds<u64>,
     keys: &mut [u64],
@@ -71,7 +79,16 @@ pub fn range_at(
     let lower = passed(bounds.start_bound());
     let upper = passed(bounds.end_bound());
     let mut matching = 0;
-    let code = ffi::range(layout, archive, lower, upper, keys, values, &mut matching);
+    let code = ffi::range(
+        layout,
+        limits,
+        archive,
+        lower,
+        upper,
+        keys,
+        values,
+        &mut matching,
+    );
     matched(code, matching)
 }
 
@@ -130,24 +147,34 @@ pub fn column(
     keys: &mut [u64],
     values: &mut [u64],
 ) -> Result<Matched, Refusal> {
-    let layout = Layout::COMMON;
-    column_at(layout, archive, packing, examination, eye, x, keys, values)
+    let (layout, limits) = (Layout::COMMON, Limits::SERVER);
+    column_at(
+        layout,
+        limits,
+        archive,
+        packing,
+        examination,
+        eye,
+        x,
+        keys,
+        values,
+    )
 }
 
-/// As [`column`](column()), of an archive of a layout.
+/// As [`column`](column()), of an archive of a layout and with limits.
 ///
 /// # Errors
 ///
 /// The first fault of 1 to 9, then 18, where the examination or the eye does not fit its field.
 ///
 /// ```
-/// use fieldmap::{column_at, Key, Layout, Packing::Plus128, Width::Bits64};
+/// use fieldmap::{column_at, Key, Layout, Limits, Packing::Plus128, Width::Bits64};
 ///
-/// let layout = Layout::new(Bits64, 15)?;
+/// let (layout, limits) = (Layout::new(Bits64, 15)?, Limits::VIEWER);
 /// let key = Key { examination: 1, eye: Key::LEFT, x: -15, y: 3, presentation: 0 };
 /// let (mut archive, mut keys, mut values) = ([0; 272], [0; 1], [0; 1]);
 /// fieldmap::build_at(layout, &mut archive, 0, &[key.pack(Plus128)?], &[9])?;
-/// let matched = column_at(layout, &archive, Plus128, 1, Key::LEFT, -20..=20, &mut keys, &mut values)?;
+/// let matched = column_at(layout, limits, &archive, Plus128, 1, Key::LEFT, -20..=20, &mut keys, &mut values)?;
 /// assert_eq!((matched.matching, values), (1, [9]));
 /// # Ok::<(), fieldmap::Refusal>(())
 /// ```
@@ -155,6 +182,7 @@ pub fn column(
 #[inline]
 pub fn column_at(
     layout: Layout,
+    limits: Limits,
     archive: &[u8],
     packing: Packing,
     examination: u32,
@@ -167,6 +195,7 @@ pub fn column_at(
     let mut matching = 0;
     let code = ffi::column(
         layout,
+        limits,
         archive,
         (packing as u8, examination, eye),
         ends,

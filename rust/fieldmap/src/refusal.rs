@@ -7,7 +7,7 @@ use core::fmt;
 #[derive(Clone, Copy, Debug, PartialEq, Eq, PartialOrd, Ord, Hash)]
 #[repr(u8)]
 pub enum Refusal {
-    /// 1: the archive is longer than 1,048,576 bytes.
+    /// 1: the archive is longer than the limit.
     ArchiveTooLong = 1,
     /// 2: the record or a node leaves the range in which it must lie.
     InvalidSubtreePointer,
@@ -15,7 +15,7 @@ pub enum Refusal {
     UnalignedPointer,
     /// 4: a node's kind byte is neither 0 nor 1.
     InvalidKind,
-    /// 5: more than 14 nodes are nested.
+    /// 5: more nodes are nested than the depth limit allows.
     ExceededMaximumSubtreeDepth,
     /// 6: a leaf's count is above the layout's entries a node.
     InvalidLength,
@@ -89,11 +89,11 @@ impl Refusal {
     #[must_use]
     pub const fn text(self) -> &'static str {
         match self {
-            Refusal::ArchiveTooLong => "the archive is longer than 1,048,576 bytes",
+            Refusal::ArchiveTooLong => "the archive is too long",
             Refusal::InvalidSubtreePointer => "the record or a node leaves its range",
             Refusal::UnalignedPointer => "the record or a node is not on its alignment",
             Refusal::InvalidKind => "a node is neither a leaf nor an inner node",
-            Refusal::ExceededMaximumSubtreeDepth => "more than 14 nodes are nested",
+            Refusal::ExceededMaximumSubtreeDepth => "the nodes are nested too deep",
             Refusal::InvalidLength => "a leaf counts more entries than a node may have",
             Refusal::EntriesLengthMismatch => "the entries are not as many as recorded",
             Refusal::HollowNode => "a leaf is empty, or an inner node has no first child",

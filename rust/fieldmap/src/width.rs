@@ -19,15 +19,15 @@
 /// known, a count of 0 says nothing.
 ///
 /// ```
-/// use fieldmap::{Refusal, Width};
+/// use fieldmap::{certify_at, Limits, Refusal, Width};
 ///
-/// let (mut archive, wide) = ([0; 112], Width::Bits64.into());
+/// let (mut archive, wide, limits) = ([0; 112], Width::Bits64.into(), Limits::SERVER);
 /// assert_eq!(fieldmap::build_at(wide, &mut archive, 0, &[1, 5, 9], &[10, 50, 90]), Ok(112));
-/// assert_eq!(fieldmap::certify_at(wide, &archive), Ok(3));
+/// assert_eq!(certify_at(wide, limits, &archive), Ok(3));
 /// assert_eq!(fieldmap::certify(&archive), Ok(0));
 ///
 /// assert_eq!(fieldmap::build(&mut archive, 0, &[1, 5, 9], &[10, 50, 90]), Ok(104));
-/// assert_eq!(fieldmap::certify_at(wide, &archive[..104]), Err(Refusal::InvalidSubtreePointer));
+/// assert_eq!(certify_at(wide, limits, &archive[..104]), Err(Refusal::InvalidSubtreePointer));
 /// # assert_eq!(Width::default(), Width::Bits32);
 /// ```
 #[derive(Clone, Copy, Debug, Default, PartialEq, Eq, Hash)]

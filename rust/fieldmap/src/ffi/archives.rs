@@ -1,18 +1,20 @@
-//! A safe function over each call that takes a layout.
+//! A safe function over each call that takes a layout. Those that read an archive take the limits behind it.
 
 use super::{
     fieldmap_build, fieldmap_build_length, fieldmap_certify, fieldmap_check, fieldmap_column,
     fieldmap_lookup, fieldmap_lookup_bytes, fieldmap_lookup_many, fieldmap_range, fieldmap_walk,
 };
-use crate::Layout;
+use crate::{Layout, Limits};
 
 #[inline]
-pub fn check(layout: Layout, archive: &[u8]) -> i64 {
+pub fn check(layout: Layout, limits: Limits, archive: &[u8]) -> i64 {
     // SAFETY: as `ffi.rs` says.
     unsafe {
         fieldmap_check(
             layout.width() as u8,
             layout.entries(),
+            limits.longest,
+            limits.depth,
             archive.as_ptr(),
             archive.len(),
         )
@@ -20,12 +22,14 @@ pub fn check(layout: Layout, archive: &[u8]) -> i64 {
 }
 
 #[inline]
-pub fn certify(layout: Layout, archive: &[u8]) -> i64 {
+pub fn certify(layout: Layout, limits: Limits, archive: &[u8]) -> i64 {
     // SAFETY: as `ffi.rs` says.
     unsafe {
         fieldmap_certify(
             layout.width() as u8,
             layout.entries(),
+            limits.longest,
+            limits.depth,
             archive.as_ptr(),
             archive.len(),
         )
@@ -35,6 +39,7 @@ pub fn certify(layout: Layout, archive: &[u8]) -> i64 {
 #[inline]
 pub fn lookup(
     layout: Layout,
+    limits: Limits,
     archive: &[u8],
     key: u64,
     value: &mut u64,
@@ -45,6 +50,8 @@ pub fn lookup(
         fieldmap_lookup(
             layout.width() as u8,
             layout.entries(),
+            limits.longest,
+            limits.depth,
             archive.as_ptr(),
             archive.len(),
             key,
@@ -55,12 +62,20 @@ pub fn lookup(
 }
 
 #[inline]
-pub fn lookup_bytes(layout: Layout, archive: &[u8], key: u64, start: &mut u64) -> i64 {
+pub fn lookup_bytes(
+    layout: Layout,
+    limits: Limits,
+    archive: &[u8],
+    key: u64,
+    start: &mut u64,
+) -> i64 {
     // SAFETY: as `ffi.rs` says.
     unsafe {
         fieldmap_lookup_bytes(
             layout.width() as u8,
             layout.entries(),
+            limits.longest,
+            limits.depth,
             archive.as_ptr(),
             archive.len(),
             key,
@@ -70,12 +85,20 @@ pub fn lookup_bytes(layout: Layout, archive: &[u8], key: u64, start: &mut u64) -
 }
 
 #[inline]
-pub fn lookup_many(layout: Layout, archive: &[u8], keys: &[u64], values: &mut [u64]) -> i64 {
+pub fn lookup_many(
+    layout: Layout,
+    limits: Limits,
+    archive: &[u8],
+    keys: &[u64],
+    values: &mut [u64],
+) -> i64 {
     // SAFETY: as `ffi.rs` says.
     unsafe {
         fieldmap_lookup_many(
             layout.width() as u8,
             layout.entries(),
+            limits.longest,
+            limits.depth,
             archive.as_ptr(),
             archive.len(),
             keys.as_ptr(),
@@ -89,6 +112,7 @@ pub fn lookup_many(layout: Layout, archive: &[u8], keys: &[u64], values: &mut [u
 #[inline]
 pub fn walk(
     layout: Layout,
+    limits: Limits,
     archive: &[u8],
     keys: &mut [u64],
     values: &mut [u64],
@@ -99,6 +123,8 @@ pub fn walk(
         fieldmap_walk(
             layout.width() as u8,
             layout.entries(),
+            limits.longest,
+            limits.depth,
             archive.as_ptr(),
             archive.len(),
             keys.as_mut_ptr(),
@@ -111,9 +137,11 @@ pub fn walk(
 }
 
 /// A bound passes as its kind and its key.
+#[allow(clippy::too_many_arguments)]
 #[inline]
 pub fn range(
     layout: Layout,
+    limits: Limits,
     archive: &[u8],
     (lower_kind, lower): (u8, u64),
     (upper_kind, upper): (u8, u64),
@@ -126,6 +154,8 @@ pub fn range(
         fieldmap_range(
             layout.width() as u8,
             layout.entries(),
+            limits.longest,
+            limits.depth,
             archive.as_ptr(),
             archive.len(),
             lower_kind,
@@ -142,9 +172,11 @@ pub fn range(
 }
 
 /// The packing, the examination and its eye pass together, and so do the two ends of x.
+#[allow(clippy::too_many_arguments)]
 #[inline]
 pub fn column(
     layout: Layout,
+    limits: Limits,
     archive: &[u8],
     (packing, examination, eye): (u8, u32, u8),
     (a, b): (i8, i8),
@@ -157,6 +189,8 @@ pub fn column(
         fieldmap_column(
             layout.width() as u8,
             layout.entries(),
+            limits.longest,
+            limits.depth,
             archive.as_ptr(),
             archive.len(),
             packing,

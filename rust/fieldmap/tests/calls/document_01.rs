@@ -5,7 +5,7 @@ use std::ops::Bound::{Excluded, Included, Unbounded};
 use crate::by_hand::{nested_at, root_leaf};
 use crate::given::{built, Sizes, BEFORE, LAYOUTS};
 use fieldmap::Packing::TwosComplement;
-use fieldmap::{Aligned, Entry, Key, Matched, Refusal};
+use fieldmap::{Aligned, Entry, Key, Limits, Matched, Refusal};
 
 fn i32_at(bytes: &[u8], position: usize) -> i32 {
     i32::from_le_bytes(bytes[position..position + 4].try_into().unwrap())
@@ -178,7 +178,13 @@ fn depth() {
     for Sizes { layout, .. } in LAYOUTS {
         let archive = nested_at(layout, 14);
         let count = 13 * layout.entries() + 1;
-        assert_eq!(fieldmap::check_at(layout, &archive), Ok(count));
-        assert_eq!(fieldmap::certify_at(layout, &archive), Ok(count));
+        assert_eq!(
+            fieldmap::check_at(layout, Limits::SERVER, &archive),
+            Ok(count)
+        );
+        assert_eq!(
+            fieldmap::certify_at(layout, Limits::SERVER, &archive),
+            Ok(count)
+        );
     }
 }

@@ -1,7 +1,7 @@
 //! The refusals, the packings, the widths, the common layout and the limits, against those of `include/fieldmap.h`.
 
 use crate::repository;
-use fieldmap::{Layout, NoSuchRefusal, Packing, Refusal, Width};
+use fieldmap::{Layout, Limits, NoSuchRefusal, Packing, Refusal, Width};
 
 fn header() -> String {
     String::from_utf8(repository::bytes("include/fieldmap.h")).unwrap()
@@ -109,13 +109,24 @@ fn common_layout() {
     assert!(header().contains(both));
 }
 
+/// The limits of a caller, and that both pass together.
+fn limits_of(caller: &str, limits: Limits) {
+    let (longest, depth) = (format!("{caller}_LONGEST"), format!("{caller}_DEPTH"));
+    assert_eq!(limit(&longest), limits.longest.to_string());
+    assert_eq!(limit(&depth), limits.depth.to_string());
+    let both = format!("FIELDMAP_{caller}_LIMITS FIELDMAP_{longest}, FIELDMAP_{depth}\n");
+    assert!(header().contains(&both));
+}
+
 #[test]
-fn limits() {
-    assert_eq!(
-        limit("LONGEST_ARCHIVE"),
-        fieldmap::LONGEST_ARCHIVE.to_string()
-    );
-    assert_eq!(limit("MOST_NESTED"), fieldmap::MOST_NESTED.to_string());
+fn limits_of_callers() {
+    limits_of("VIEWER", Limits::VIEWER);
+    limits_of("SERVER", Limits::SERVER);
+    assert_eq!(Limits::default(), Limits::SERVER);
+}
+
+#[test]
+fn limits_of_all() {
     assert_eq!(
         limit("FEWEST_IN_NODE"),
         fieldmap::FEWEST_IN_NODE.to_string()

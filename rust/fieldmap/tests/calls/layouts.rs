@@ -5,7 +5,7 @@ use std::cmp::Ordering::{Equal, Greater, Less};
 use crate::by_hand::root_leaf_at;
 use crate::given::{built_at, layout, Sizes, LAYOUTS};
 use fieldmap::Width::{Bits16, Bits32, Bits64};
-use fieldmap::{Archive, Layout, Refusal, Width};
+use fieldmap::{Archive, Layout, Limits, Refusal, Width};
 
 /// A library whose calls take no layout, or a width alone, links too, and gives other lengths.
 #[test]
@@ -103,7 +103,10 @@ fn most_at_16_bits() {
     for (entries, most) in (3..=15).zip(most) {
         let layout = layout(Bits16, entries);
         let bytes = built_at(layout, most);
-        assert_eq!(fieldmap::certify_at(layout, &bytes), Ok(most as usize));
+        assert_eq!(
+            fieldmap::certify_at(layout, Limits::SERVER, &bytes),
+            Ok(most as usize)
+        );
         let more = fieldmap::build_length_at(layout, most as usize + 1, 0);
         assert_eq!(more, Err(Refusal::OffsetOverflow));
     }
@@ -165,10 +168,18 @@ fn no_entries() {
         expected[start] = 1;
         assert_eq!(out, expected);
         let archive = &out[..end];
-        assert_eq!(fieldmap::certify_at(layout, archive), Ok(0));
-        assert_eq!(fieldmap::lookup_at(layout, archive, 0), Ok(None));
-        assert_eq!(fieldmap::lookup_bytes_at(layout, archive, 0), []);
-        assert!(Archive::check_at(layout, archive).unwrap().is_empty());
+        assert_eq!(fieldmap::certify_at(layout, Limits::SERVER, archive), Ok(0));
+        assert_eq!(
+            fieldmap::lookup_at(layout, Limits::SERVER, archive, 0),
+            Ok(None)
+        );
+        assert_eq!(
+            fieldmap::lookup_bytes_at(layout, Limits::SERVER, archive, 0),
+            []
+        );
+        assert!(Archive::check_at(layout, Limits::SERVER, archive)
+            .unwrap()
+            .is_empty());
     }
 }
 
@@ -188,9 +199,9 @@ fn read_by_another_width() {
                     }
                     Less => Err(Refusal::InvalidSubtreePointer),
                 };
-                let answer = fieldmap::certify_at(by, &bytes);
+                let answer = fieldmap::certify_at(by, Limits::SERVER, &bytes);
                 assert_eq!(answer, expected, "{count} of {own:?} by {width:?}");
-                assert_eq!(fieldmap::check_at(by, &bytes), expected);
+                assert_eq!(fieldmap::check_at(by, Limits::SERVER, &bytes), expected);
             }
         }
     }
@@ -203,7 +214,8 @@ fn read_by_more_entries() {
         for count in [1, 2, 3, 4, 15, 16, 36, 1_000] {
             let bytes = built_at(own, count);
             for entries in own.entries() + 1..=15 {
-                let answer = fieldmap::check_at(layout(own.width(), entries), &bytes);
+                let answer =
+                    fieldmap::check_at(layout(own.width(), entries), Limits::SERVER, &bytes);
                 assert_eq!(answer, Err(Refusal::InvalidSubtreePointer));
             }
         }
@@ -217,13 +229,17 @@ fn read_by_fewer_entries() {
         let (own, fewer) = (Layout::from(width), layout(width, 3));
         let mut bytes = [0; 112];
         let end = fieldmap::build_at(own, &mut bytes, 0, &[1, 5], &[10, 50]).unwrap();
-        let answer = fieldmap::check_at(fewer, &bytes[..end]);
+        let answer = fieldmap::check_at(fewer, Limits::SERVER, &bytes[..end]);
         assert_eq!(answer, Err(Refusal::InvalidLength));
         // The second value stands where a leaf of three has its count.
         fieldmap::build_at(own, &mut bytes, 0, &[1, 5], &[10, 2]).unwrap();
         let (mut keys, mut values) = ([0; 2], [0; 2]);
-        assert_eq!(fieldmap::certify_at(fewer, &bytes[..end]), Ok(2));
-        let _ = fieldmap::walk_at(fewer, &bytes[..end], &mut keys, &mut values).unwrap();
+        assert_eq!(
+            fieldmap::certify_at(fewer, Limits::SERVER, &bytes[..end]),
+            Ok(2)
+        );
+        let _ = fieldmap::walk_at(fewer, Limits::SERVER, &bytes[..end], &mut keys, &mut values)
+            .unwrap();
         assert_eq!((keys, values), ([1, 5], [0, 0]));
     }
 }

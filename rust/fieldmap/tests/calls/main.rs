@@ -8,9 +8,11 @@ mod given;
 mod header;
 mod keys;
 mod layouts;
+mod limits;
 mod open_archives;
 #[cfg(feature = "alloc")]
 mod owned;
 mod readers;
 mod refusals;
+mod refused;
 mod repository;

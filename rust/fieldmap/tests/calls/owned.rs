@@ -5,7 +5,7 @@ use std::ops::Bound::{Excluded, Included};
 
 use crate::by_hand::root_leaf;
 use crate::given::{Sizes, LAYOUTS};
-use fieldmap::{archive_of, archive_of_at, Archive, Certified, Refusal, Width};
+use fieldmap::{archive_of, archive_of_at, Archive, Certified, Limits, Refusal, Width};
 
 /// A map of so many entries.
 fn map(count: u64) -> BTreeMap<u64, u64> {
@@ -35,7 +35,7 @@ fn maps_come_back_by_each_layout() {
             let bytes = archive_of_at(layout, &map).unwrap();
             let length = fieldmap::build_length_at(layout, map.len(), 0);
             assert_eq!(Ok(bytes.len()), length);
-            let certified = Certified::certify_at(layout, &bytes).unwrap();
+            let certified = Certified::certify_at(layout, Limits::SERVER, &bytes).unwrap();
             assert_eq!(certified.to_map(), map);
             let entries: Vec<(u64, u64)> = map.into_iter().collect();
             assert_eq!(certified.archive().entries(), entries);

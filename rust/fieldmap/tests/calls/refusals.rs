@@ -1,48 +1,19 @@
 //! Each refusal, by every call that can give it, by layouts of each width, and what was lent afterwards.
 
 use crate::by_hand::{nested_at, root_leaf_at, slots, Output};
-use crate::given::{layout, Sizes, BEFORE, LAYOUTS};
-use fieldmap::Packing::{Plus128, TwosComplement};
+use crate::given::{layout, Sizes, LAYOUTS};
+use crate::refused::refused;
 use fieldmap::Width::{Bits16, Bits32, Bits64};
-use fieldmap::{Layout, Refusal};
-
-/// What check and certify answer by a layout, and that every reader answers the same and leaves what it was lent where that is a refusal.
-fn refused(layout: Layout, archive: &[u8], by_check: Option<u8>, by_certify: u8) {
-    let number = |refusal: Refusal| refusal.number();
-    let answer = fieldmap::check_at(layout, archive);
-    assert_eq!(answer.map_err(number).err(), by_check, "{layout:?}");
-    let answer = fieldmap::certify_at(layout, archive);
-    assert_eq!(answer.map_err(number), Err(by_certify), "{layout:?}");
-    let (mut keys, mut values) = ([BEFORE; 7], [BEFORE; 9]);
-    let answer = fieldmap::range_at(layout, archive, .., &mut keys, &mut values);
-    assert_eq!(answer.map_err(number), Err(by_certify));
-    for (packing, eye) in [
-        (TwosComplement, 0),
-        (TwosComplement, 2),
-        (Plus128, 0),
-        (Plus128, 2),
-    ] {
-        let (keys, values) = (&mut keys, &mut values);
-        let answer = fieldmap::column_at(layout, archive, packing, 0, eye, 0..=1, keys, values);
-        assert_eq!(answer.map_err(number), Err(by_certify), "before 18");
-    }
-    if let Some(by_check) = by_check {
-        let walked = fieldmap::walk_at(layout, archive, &mut keys, &mut values);
-        assert_eq!(walked.map_err(number), Err(by_check));
-        let many = fieldmap::lookup_many_at(layout, archive, &[1, 2, 3], &mut values);
-        assert_eq!(many.map_err(number), Err(by_check));
-        let found = fieldmap::lookup_at(layout, archive, 1);
-        assert_eq!(found.map_err(number), Err(by_check));
-        assert!(fieldmap::lookup_bytes_at(layout, archive, 1).is_empty());
-    }
-    assert_eq!((keys, values), ([BEFORE; 7], [BEFORE; 9]));
-}
+use fieldmap::{Layout, Limits, Refusal};
 
 #[test]
 fn by_1() {
     for Sizes { layout, .. } in LAYOUTS {
         refused(layout, &vec![0; 1_048_577], Some(1), 1);
-        assert_eq!(fieldmap::check_at(layout, &vec![0; 1_048_576]), Ok(0));
+        assert_eq!(
+            fieldmap::check_at(layout, Limits::SERVER, &vec![0; 1_048_576]),
+            Ok(0)
+        );
     }
 }
 
@@ -196,7 +167,10 @@ fn by_16() {
         fieldmap::build_at(bits_16, &mut out, 0, most, most),
         Ok(57_820)
     );
-    assert_eq!(fieldmap::certify_at(bits_16, &out), Ok(2_970));
+    assert_eq!(
+        fieldmap::certify_at(bits_16, Limits::SERVER, &out),
+        Ok(2_970)
+    );
     for header in [0, 1, 4_096] {
         assert_eq!(built(bits_16, 100_000, header, more, more), 16);
     }
