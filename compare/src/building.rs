@@ -8,7 +8,7 @@ use std::ops::RangeInclusive;
 
 use crate::counts::{Counts, LEAST};
 use crate::lists::entries;
-use crate::model::{Layout, LONGEST, LONGEST_HEADER};
+use crate::model::{Layout, LONGEST_HEADER, SERVER};
 use crate::oracle;
 use crate::readers::{same, same_bytes};
 use crate::rkyv_map::BITS;
@@ -171,7 +171,7 @@ fn outside(given: Given<'_>, call: &mut impl FnMut(u8, Given<'_>)) {
 pub fn too_many(number: usize, random: &mut Random, mut call: impl FnMut(u8, Given<'_>)) {
     let (keys, values) = &entries(number, random);
     let given = Given {
-        length: LONGEST,
+        length: SERVER.longest,
         header: 0,
         keys,
         values,
@@ -198,10 +198,10 @@ pub struct Outputs {
 
 impl Outputs {
     pub fn new(random: &mut Random) -> Self {
-        let before = (0..LONGEST).map(|_| 1 + random.below(255) as u8).collect();
+        let bytes = (0..SERVER.longest).map(|_| 1 + random.below(255) as u8);
         Self {
-            before,
-            output: vec![0; LONGEST],
+            before: bytes.collect(),
+            output: vec![0; SERVER.longest],
             answers: Counts::default(),
             differing: 0,
             first: None,

@@ -29,9 +29,14 @@ impl Counts {
 
     /// A line for each of these refusals.
     pub fn print(&self, numbers: RangeInclusive<usize>) {
+        self.print_under("", numbers);
+    }
+
+    /// The same, each line with a text in front.
+    pub fn print_under(&self, front: &str, numbers: RangeInclusive<usize>) {
         for number in numbers {
-            let count = self.0[number];
-            println!("refused by {number:2}                       {count:9}");
+            let (name, count) = (format!("{front}refused by {number:2}"), self.0[number]);
+            println!("{name:36}{count:9}");
         }
     }
 }
@@ -71,7 +76,7 @@ impl Differences {
 /// Where rkyv has no answer, or none that can be asked for: there the proved code is compared with the second reading of document 01 only.
 #[derive(Default)]
 pub struct LeftOut {
-    /// Archives above 1,048,576 bytes.
+    /// Archives longer than the limit, the server's or a drawn one.
     pub too_long: u64,
     /// Accepted archives, of which certify was asked.
     pub certify: u64,
@@ -88,7 +93,7 @@ pub struct LeftOut {
 impl fmt::Display for LeftOut {
     fn fmt(&self, f: &mut fmt::Formatter<'_>) -> fmt::Result {
         let lines = [
-            ("archives above 1,048,576 bytes", self.too_long),
+            ("archives longer than the limit", self.too_long),
             ("certify of accepted archives", self.certify),
             ("crossed ranges", self.crossed),
             ("ranges of hollow archives (RawIter)", self.hollow),

@@ -4,6 +4,8 @@ use std::ffi::{c_int, c_long, c_void};
 use std::mem::size_of;
 use std::{ptr, slice};
 
+use crate::model::Layout;
+
 /// How the memory stands.
 #[derive(Clone, Copy, Debug, PartialEq)]
 pub enum Place {
@@ -127,5 +129,39 @@ impl<T: Copy> Lender<T> {
         // SAFETY: the margin lies in the pages, and these can be read.
         let margin = unsafe { slice::from_raw_parts(self.start.add(self.margin()), MARGIN) };
         margin.iter().all(|&byte| byte == MARK)
+    }
+}
+
+/// The memory that calls at a layout are lent.
+pub struct Lenders {
+    pub layout: Layout,
+    pub archive: Lender<u8>,
+    pub lists: Lists,
+}
+
+/// That of the lists beside an archive, and the output.
+pub struct Lists {
+    pub keys: Lender<u64>,
+    pub values: Lender<u64>,
+    pub given_keys: Lender<u64>,
+    pub given_values: Lender<u64>,
+    pub output: Lender<u8>,
+}
+
+impl Lenders {
+    /// Memory for archives of a mebibyte and so many entries: lists that are given can only be read, and those that are written to are twice as
+    /// long.
+    pub fn new(layout: Layout, most: usize) -> Self {
+        Self {
+            layout,
+            archive: Lender::new(1 << 20, true),
+            lists: Lists {
+                keys: Lender::new(2 * most, false),
+                values: Lender::new(2 * most, false),
+                given_keys: Lender::new(most, true),
+                given_values: Lender::new(most, true),
+                output: Lender::new(1 << 20, false),
+            },
+        }
     }
 }

@@ -1,29 +1,28 @@
 //! Document 01's text without rkyv: the check, the list of an accepted archive, certification and ranges, read off the bytes; what refuses
 //! a build and an alignment step; key packing and column queries, also by document 02's second packing.
 //!
-//! What is read off the bytes is read at any layout (`Layout`). The functions and sizes without one are those of the
-//! layout with 5 entries a node that rkyv is built for here, `OWN`.
+//! What is read off the bytes is read at any layout (`Layout`), and the check takes any limits (`Limits`). The functions
+//! and sizes without them are those of the layout with 5 entries a node that rkyv is built for here, `OWN`, and of
+//! document 01's limits, `SERVER`.
 //!
 //! rkyv has no counterpart to refusals 1, 8 to 14, 17, 18 and 24 nor to key packing, and answers crossed ranges
 //! otherwise; there this module is the reference. Where rkyv has one, the program `compare` holds this module to it.
 
 mod keys;
 mod layout;
+mod limits;
 mod ranges;
 mod tree;
 
 pub use keys::{pack, seen, threshold, unpack, KeyFields, Packing, PACKINGS};
 pub use layout::{Layout, COMMON, KEYS, OUTSIDE, OWN, RANGE};
+pub use limits::{Limits, SERVER, VIEWER};
 pub use ranges::{column, crosses, in_column, range, Column};
 pub use tree::{Entry, Node};
 
-/// Refusal 1: "N is above 1,048,576."
-pub const LONGEST: usize = 1_048_576;
 /// Refusals 11 and 13: "More than 40,000 entries are given." "The header is longer than 4,096 bytes."
 pub const MOST_GIVEN: usize = 40_000;
 pub const LONGEST_HEADER: u64 = 4_096;
-/// "Depth starts at 16".
-const DEPTH: u32 = 16;
 
 /// Sizes of rkyv's layout here.
 pub const ENTRIES: usize = OWN.entries;
@@ -37,14 +36,9 @@ pub fn child(node: usize, index: usize) -> usize {
     OWN.child(node, index)
 }
 
-/// Refusal 1.
-pub fn too_long(bytes: &[u8]) -> bool {
-    bytes.len() > LONGEST
-}
-
 /// The check, 1 to 7, and the recorded count.
 pub fn check(bytes: &[u8]) -> Result<u32, u8> {
-    OWN.check(bytes).map(narrow)
+    OWN.check(SERVER, bytes).map(narrow)
 }
 
 /// The reachable nodes of an accepted archive, each before its children.
@@ -64,7 +58,7 @@ pub fn fault(bytes: &[u8]) -> Option<u8> {
 
 /// Certification, 1 to 9, and the recorded count.
 pub fn certify(bytes: &[u8]) -> Result<u32, u8> {
-    OWN.certify(bytes).map(narrow)
+    OWN.certify(SERVER, bytes).map(narrow)
 }
 
 /// A number that an answer has, as the comparison has it. What 32 bits do not hold becomes the largest that they hold,

@@ -1,7 +1,10 @@
-//! rkyv's map with a number of entries a node that is given as a value: each from 3 to 15, with the pointers that rkyv is built for.
+//! rkyv's map with a number of entries a node that is given as a value: each from 3 to 15, with the pointers that rkyv is built for; and its
+//! check with the depth of a caller's limits.
 
+use std::num::NonZeroUsize;
 use std::ops::Bound;
 
+use crate::model::Limits;
 use crate::rkyv_map::{build_if_it_fits, Accepted, Archive, Found};
 
 /// What rkyv reads of an archive that its check accepts.
@@ -60,13 +63,24 @@ macro_rules! with_entries {
     };
 }
 
-/// rkyv's check with so many entries a node, and document 01's number of its refusal, 2 to 7.
-pub fn check(entries: usize, archive: &Archive) -> Checked<'_> {
-    fn of<const N: usize>(archive: &Archive) -> Checked<'_> {
-        let accepted = archive.check_of::<N>()?;
+/// rkyv's check with so many entries a node and the depth of these limits, and document 01's number of its refusal, 2 to 7. It has no limit
+/// for the length.
+pub fn check(entries: usize, limits: Limits, archive: &Archive) -> Checked<'_> {
+    fn of<const N: usize>(archive: &Archive, depth: NonZeroUsize) -> Checked<'_> {
+        let accepted = archive.check_of::<N>(depth)?;
         Ok(Box::new(accepted))
     }
-    with_entries!(entries, of(archive))
+    with_entries!(entries, of(archive, depth(limits)))
+}
+
+/// The depth at which rkyv is the judge of limits: it has none of 0, which is judged at 1, and 17 and above count as 16.
+fn depth(limits: Limits) -> NonZeroUsize {
+    let depth = match limits.depth {
+        0 => 1,
+        depth @ 1..=16 => depth,
+        _ => 16,
+    };
+    NonZeroUsize::new(depth).expect("1 to 16")
 }
 
 /// rkyv's archive of keys and values behind a header, or nothing where an offset does not fit and rkyv panics.

@@ -1,15 +1,18 @@
-//! The proved code: the calls of the static library, through the crate `fieldmap`, at a layout. Those without one are at the layout with 5
-//! entries a node and the pointers that rkyv is built for. A refusal is its number.
+//! The proved code: the calls of the static library, through the crate `fieldmap`, at a layout and under limits. Those without are at the
+//! layout with 5 entries a node and the pointers that rkyv is built for, under the server's limits. A refusal is its number.
 
 pub mod named;
+mod parts;
 
 use std::ops::Bound;
 
 use fieldmap::{Refusal, Width};
 
 use self::named::Named;
-use crate::model::{narrow, Column, KeyFields, Layout, Packing, OWN};
+use crate::model::{narrow, Column, Layout, Limits, Packing, OWN, SERVER};
 use crate::rkyv_map::Found;
+
+pub use parts::{absent, align, offset, pack, seen, threshold, unpack};
 
 /// A number of an answer, as the comparison has it.
 fn number(number: usize) -> u32 {
@@ -31,14 +34,15 @@ pub fn bits(width: usize, any: u64) -> u8 {
     }
 }
 
-/// The calls at a layout.
+/// The calls at a layout and under limits.
 #[derive(Clone, Copy)]
 pub struct At {
     layout: Layout,
+    limits: Limits,
     named: fieldmap::Layout,
 }
 
-/// The calls at a layout of 3 to 15 entries a node.
+/// The calls at a layout of 3 to 15 entries a node, under the server's limits.
 pub fn at(layout: Layout) -> At {
     let width = match layout.width {
         2 => Width::Bits16,
@@ -48,21 +52,36 @@ pub fn at(layout: Layout) -> At {
     let named = fieldmap::Layout::new(width, layout.entries);
     At {
         layout,
+        limits: SERVER,
         named: named.expect("3 to 15 entries a node"),
     }
 }
 
 impl At {
+    /// The calls under other limits.
+    pub fn under(self, limits: Limits) -> Self {
+        Self { limits, ..self }
+    }
+
+    /// The limits, as the crate has them.
+    #[inline]
+    fn limits(self) -> fieldmap::Limits {
+        fieldmap::Limits {
+            longest: self.limits.longest,
+            depth: self.limits.depth,
+        }
+    }
+
     /// The recorded count, or the refusal.
     #[inline]
     pub fn check(self, archive: &[u8]) -> Result<u32, u8> {
-        answer(fieldmap::check_at(self.named, archive))
+        answer(fieldmap::check_at(self.named, self.limits(), archive))
     }
 
     /// The recorded count, or the refusal.
     #[inline]
     pub fn certify(self, archive: &[u8]) -> Result<u32, u8> {
-        answer(fieldmap::certify_at(self.named, archive))
+        answer(fieldmap::certify_at(self.named, self.limits(), archive))
     }
 
     /// The number of entries written and the recorded count, or the refusal.
@@ -73,7 +92,7 @@ impl At {
         keys: &mut [u64],
         values: &mut [u64],
     ) -> Result<(u32, u32), u8> {
-        fieldmap::walk_at(self.named, archive, keys, values)
+        fieldmap::walk_at(self.named, self.limits(), archive, keys, values)
             .map(|walked| (number(walked.written), number(walked.count)))
             .map_err(Refusal::number)
     }
@@ -81,7 +100,7 @@ impl At {
     /// The entry with a key, nothing, or the refusal.
     #[inline]
     pub fn lookup(self, archive: &[u8], key: u64) -> Result<Option<Found>, u8> {
-        fieldmap::lookup_at(self.named, archive, key)
+        fieldmap::lookup_at(self.named, self.limits(), archive, key)
             .map(|found| found.map(|entry| (entry.key, entry.value, entry.position)))
             .map_err(Refusal::number)
     }
@@ -92,11 +111,12 @@ impl At {
         let named = Named {
             width: bits(self.layout.width, key),
             entries: self.layout.entries,
+            limits: self.limits,
         };
         let part = named
             .lookup_bytes(archive, key)
             .map(|(start, length)| &archive[start..][..length]);
-        let of_crate = fieldmap::lookup_bytes_at(self.named, archive, key);
+        let of_crate = fieldmap::lookup_bytes_at(self.named, self.limits(), archive, key);
         assert_eq!(of_crate, part.unwrap_or(&[]));
         part
     }
@@ -104,7 +124,13 @@ impl At {
     /// The number of keys found after one check, their values each in its place, or the refusal.
     #[inline]
     pub fn lookup_many(self, archive: &[u8], keys: &[u64], values: &mut [u64]) -> Result<u32, u8> {
-        answer(fieldmap::lookup_many_at(self.named, archive, keys, values))
+        answer(fieldmap::lookup_many_at(
+            self.named,
+            self.limits(),
+            archive,
+            keys,
+            values,
+        ))
     }
 
     /// The number of entries written and the number matching, in an archive that certify accepts, or the refusal.
@@ -117,9 +143,16 @@ impl At {
         keys: &mut [u64],
         values: &mut [u64],
     ) -> Result<(u32, u64), u8> {
-        fieldmap::range_at(self.named, archive, (lower, upper), keys, values)
-            .map(|matched| (number(matched.written), matched.matching as u64))
-            .map_err(Refusal::number)
+        fieldmap::range_at(
+            self.named,
+            self.limits(),
+            archive,
+            (lower, upper),
+            keys,
+            values,
+        )
+        .map(|matched| (number(matched.written), matched.matching as u64))
+        .map_err(Refusal::number)
     }
 
     /// The same for a column query.
@@ -135,6 +168,7 @@ impl At {
         let x = column.a..=column.b;
         fieldmap::column_at(
             self.named,
+            self.limits(),
             archive,
             packing,
             column.examination,
@@ -217,55 +251,4 @@ fn packing(packing: Packing) -> fieldmap::Packing {
         Packing::TwosComplement => fieldmap::Packing::TwosComplement,
         Packing::Plus128 => fieldmap::Packing::Plus128,
     }
-}
-
-/// The offset that a field at one position stores to lead to another, or the refusal.
-pub fn offset(from: u64, to: u64) -> Result<i32, u8> {
-    fieldmap::offset32(from, to).map_err(Refusal::number)
-}
-
-/// The offset that marks an absent pointer at a position, or the refusal.
-pub fn absent(at: u64) -> Result<i32, u8> {
-    fieldmap::absent_offset(at).map_err(Refusal::number)
-}
-
-/// The next position on an alignment and the number of zeros before it, or the refusal.
-pub fn align(position: u64, alignment: u64) -> Result<(u64, u64), u8> {
-    fieldmap::align(position, alignment)
-        .map(|aligned| (aligned.next, aligned.zeros))
-        .map_err(Refusal::number)
-}
-
-/// A key, or the refusal.
-pub fn pack(by: Packing, fields: &KeyFields) -> Result<u64, u8> {
-    let key = fieldmap::Key {
-        examination: fields.examination,
-        eye: fields.eye,
-        x: fields.x,
-        y: fields.y,
-        presentation: fields.presentation,
-    };
-    key.pack(packing(by)).map_err(Refusal::number)
-}
-
-/// The fields of a key.
-pub fn unpack(by: Packing, key: u64) -> KeyFields {
-    let key = fieldmap::Key::unpack(key, packing(by));
-    KeyFields {
-        examination: key.examination,
-        eye: key.eye,
-        x: key.x,
-        y: key.y,
-        presentation: key.presentation,
-    }
-}
-
-/// Whether the stimulus of a value was seen.
-pub fn seen(value: u64) -> bool {
-    fieldmap::Value(value).is_seen()
-}
-
-/// The threshold of a value in tenths of a decibel.
-pub fn threshold(value: u64) -> u64 {
-    fieldmap::Value(value).threshold().into()
 }

@@ -1,7 +1,10 @@
-//! The readers' answers about one archive: rkyv's against the model's, which is document 01's text, and, with the feature `ours`, the proved
-//! code's against both.
+//! The readers' answers about one archive under limits: rkyv's against the model's, which is document 01's text, and, with the feature `ours`,
+//! the proved code's against both.
 
+#[cfg(feature = "ours")]
+mod asked;
 pub mod lent;
+pub mod limits;
 #[cfg(feature = "ours")]
 mod proved;
 
@@ -9,7 +12,7 @@ use std::fmt::Debug;
 use std::ops::Bound;
 
 use crate::counts::LeftOut;
-use crate::model::{self, narrow, Entry, Layout};
+use crate::model::{self, narrow, Entry, Layout, Limits};
 use crate::oracle::{self, Checked, Reads};
 use crate::rkyv_map::Archive;
 use crate::trees::{self, Random};
@@ -20,23 +23,18 @@ const QUESTIONS: usize = 8;
 /// A lower and an upper bound.
 pub type Bounds = (Bound<u64>, Bound<u64>);
 
-/// The first difference in the answers about one archive, read with so many entries a node.
+/// The first difference in the answers about one archive, read with so many entries a node under these limits.
 pub fn compare(
     entries: usize,
+    limits: Limits,
     archive: &Archive,
     random: &mut Random,
     left_out: &mut LeftOut,
 ) -> Result<(), String> {
     let (layout, bytes) = (Layout::with(entries), archive.bytes());
-    let checked = match model::too_long(bytes) {
-        // rkyv has no such limit.
-        true => {
-            left_out.too_long += 1;
-            Err(1)
-        }
-        false => oracle::check(entries, archive),
-    };
-    let right = layout.check(bytes).map(narrow);
+    let checked = check(entries, limits, archive);
+    left_out.too_long += u64::from(limits.too_long(bytes));
+    let right = layout.check(limits, bytes).map(narrow);
     same("check", ("rkyv", count(&checked)), ("model", right))?;
 
     let list = match &checked {
@@ -54,10 +52,18 @@ pub fn compare(
     }
     #[cfg(feature = "ours")]
     {
-        let asked = proved::Asked::new(layout, bytes, &checked, &list);
+        let asked = proved::Asked::new(layout, limits, bytes, &checked, &list);
         left_out.outside += asked.compare_all(&sought, &ranges, random)?;
     }
     Ok(())
+}
+
+/// rkyv's check under limits, but for their longest archive, for which rkyv has no limit.
+fn check(entries: usize, limits: Limits, archive: &Archive) -> Checked<'_> {
+    match limits.too_long(archive.bytes()) {
+        true => Err(1),
+        false => oracle::check(entries, limits, archive),
+    }
 }
 
 /// What rkyv's check answers, as a number.

@@ -4,12 +4,12 @@
 //! `builds [LIMIT [SEED [ENTRIES]]]` takes the numbers from 0 to the limit; if none is given, to 2,000, with pointers of 16 bits to 4,500. The
 //! trees have so many entries a node, 5 if not given. The output holds bytes other than 0 before each call; those of the header and those past
 //! the archive must stay, check and certify must accept the archive with the number of entries, and the length that is told beforehand must be
-//! the archive's end. Once for each list the readers' answers about the archive are compared too. Where an offset does not fit 16 bits, rkyv
-//! panics, and the build and the length must be refused by 16. Where rkyv panics although all fit, the second reading is the reference.
-//! Refused calls must leave the output as it was; but for 16 the papers are the reference, since rkyv takes every list. Prints how many
-//! archives and how many refused calls there were. If some differ, it prints the first of them and ends with 1. With the limit that is taken
-//! if none is given, or a larger one, it also ends with 1 if one of the refusals 10 to 14 and 24, with pointers of 16 bits also 16, comes up
-//! less than 100 times.
+//! the archive's end. Once for each list the readers' answers about the archive are compared too, under the server's limits and under drawn
+//! ones. Where an offset does not fit 16 bits, rkyv panics, and the build and the length must be refused by 16. Where rkyv panics although all
+//! fit, the second reading is the reference. Refused calls must leave the output as it was; but for 16 the papers are the reference, since rkyv
+//! takes every list. Prints how many archives and how many refused calls there were. If some differ, it prints the first of them and ends
+//! with 1. With the limit that is taken if none is given, or a larger one, it also ends with 1 if one of the refusals 10 to 14 and 24, with
+//! pointers of 16 bits also 16, comes up less than 100 times.
 
 use std::env;
 use std::ops::RangeInclusive;
@@ -18,7 +18,7 @@ use std::process::ExitCode;
 use compare::building::{self, most_at_16, Given, Outputs, Right, HEADER};
 use compare::counts::LeftOut;
 use compare::lists::entries;
-use compare::model::{Layout, MOST_GIVEN as MOST, OUTSIDE, OWN};
+use compare::model::{Layout, MOST_GIVEN as MOST, OUTSIDE, OWN, SERVER};
 use compare::ours::named::Named;
 use compare::ours::{self, At};
 use compare::readers::{self, same};
@@ -142,10 +142,20 @@ impl Run {
         building::refused(given, random, |number, given| self.refusal(number, given));
     }
 
-    /// The readers' answers about an archive of so many entries.
+    /// The readers' answers about an archive of so many entries, under the server's limits and under drawn ones.
     fn read(&mut self, number: usize, archive: &[u8]) {
         let (entries, archive) = (self.layout.entries, Archive::copy(archive));
-        let difference = readers::compare(entries, &archive, &mut self.random, &mut self.left_out);
+        let drawn = trees::limits(archive.bytes().len(), &mut self.random);
+        let mut read = |limits| {
+            readers::compare(
+                entries,
+                limits,
+                &archive,
+                &mut self.random,
+                &mut self.left_out,
+            )
+        };
+        let difference = read(SERVER).and_then(|()| read(drawn));
         self.read += 1;
         self.outputs
             .note(format_args!("{number} entries, read"), difference);
@@ -213,7 +223,11 @@ impl Run {
         for (index, entries) in (0..).zip(OUTSIDE) {
             let any = (given.header as u64).wrapping_mul(index);
             let width = ours::bits(self.layout.width, any);
-            let named = Named { width, entries };
+            let named = Named {
+                width,
+                entries,
+                limits: SERVER,
+            };
             let length = named.build_length(given.keys.len(), given.header);
             let difference = self
                 .outputs

@@ -1,6 +1,7 @@
 //! Puts generated archives, most of them damaged, to every proved call, in memory where a read or a write outside what is lent is noticed.
 //!
-//! `guarded [NUMBER [FIRST [ENTRIES]]]` takes as many seeds from the first on, with so many entries a node, 5 if not given. What is lent stands between pages that fault, once with its end and once
+//! `guarded [NUMBER [FIRST [ENTRIES]]]` takes as many seeds from the first on, with so many entries a node, 5 if not given. Each archive is read
+//! under the server's limits and under limits drawn from the seed. What is lent stands between pages that fault, once with its end and once
 //! with its start at one of them, and marked bytes on the other side; archives and given lists cannot be written. A fault prints its seed
 //! and ends the program with 1, and so does a changed mark, a changed place that no entry was written to, another answer than the model's
 //! or than in the other place, or a build other than rkyv's. Archives have pointers of the bits that rkyv is built for.
@@ -13,8 +14,9 @@ use std::sync::atomic::{AtomicU64, Ordering};
 
 use compare::building::{most_at_16, Right};
 use compare::counts::Counts;
-use compare::lender::{Lender, Place};
-use compare::model::{narrow, Layout, OWN};
+use compare::lender::{Lenders, Lists, Place};
+use compare::model::{narrow, Layout, Limits, OWN, SERVER};
+use compare::ours::At;
 use compare::rkyv_map::{Found, BITS};
 use compare::trees::{self, Random};
 use compare::{columns, model, ours};
@@ -41,18 +43,6 @@ extern "C" fn fault(_: i32) {
     std::process::exit(1);
 }
 
-/// The memory that calls are lent.
-struct Lenders {
-    /// The layout that calls are given.
-    layout: Layout,
-    archive: Lender<u8>,
-    keys: Lender<u64>,
-    values: Lender<u64>,
-    given_keys: Lender<u64>,
-    given_values: Lender<u64>,
-    output: Lender<u8>,
-}
-
 fn main() -> ExitCode {
     let arguments: Vec<String> = env::args().skip(1).collect();
     let number = |index: usize, default: u64| match arguments.get(index) {
@@ -61,56 +51,62 @@ fn main() -> ExitCode {
     };
     let layout = Layout::with(number(2, OWN.entries as u64) as usize);
     let (number, first) = (number(0, 100_000), number(1, 0));
-    let places: &[Place] = match arguments.get(3).map(String::as_str) {
-        None => &[Place::Last, Place::First],
-        Some("heap") => &[Place::Heap],
-        Some(_) => panic!("the fourth argument is heap"),
-    };
+    let places = places(arguments.get(3).map(String::as_str));
     // SAFETY: the handler prints, although a handler should not, and does not return; SIGSEGV is 11 and SIGBUS is 7.
     unsafe {
         signal(11, fault);
         signal(7, fault);
     }
 
-    let mut lenders = Lenders {
-        layout,
-        archive: Lender::new(1 << 20, true),
-        keys: Lender::new(2 * MOST, false),
-        values: Lender::new(2 * MOST, false),
-        given_keys: Lender::new(MOST, true),
-        given_values: Lender::new(MOST, true),
-        output: Lender::new(1 << 20, false),
-    };
-    let mut counts = Counts::default();
+    let mut lenders = Lenders::new(layout, MOST);
+    let mut counts = [Counts::default(), Counts::default()];
     for seed in first..first + number {
         SEED.store(seed, Ordering::Relaxed);
         let bytes = trees::archive_at(layout, seed, trees::LONG);
-        counts.add(layout.certify(&bytes));
-        if let Err(difference) = in_places(&mut lenders, places, &bytes, seed) {
+        let limits = [SERVER, trees::limits(bytes.len(), &mut Random::new(!seed))];
+        for (counts, limits) in counts.iter_mut().zip(limits) {
+            counts.add(layout.certify(limits, &bytes));
+        }
+        if let Err(difference) = in_places(&mut lenders, places, limits, &bytes, seed) {
             println!("seed {seed}: {difference}");
             return ExitCode::FAILURE;
         }
     }
-    let (archives, certified) = counts.all();
-    println!("archives                            {archives:9}");
-    println!("certified                           {certified:9}");
-    counts.print(1..=9);
+    print(&counts);
     let stood = match places {
         [Place::Heap] => "in allocations of exactly their size",
         _ => "at both of two pages that fault",
     };
-    println!(
-        "pointers of {BITS} bits, {} entries a node, seeds {first} to {}, {stood}",
-        layout.entries,
-        first + number
-    );
+    let (entries, end) = (layout.entries, first + number);
+    println!("pointers of {BITS} bits, {entries} entries a node, seeds {first} to {end}, {stood}");
     ExitCode::SUCCESS
 }
 
-/// Every call on an archive in each place, and that its answers are the same in all.
+/// Where what is lent stands, by the fourth argument.
+fn places(word: Option<&str>) -> &'static [Place] {
+    match word {
+        None => &[Place::Last, Place::First],
+        Some("heap") => &[Place::Heap],
+        Some(_) => panic!("the fourth argument is heap"),
+    }
+}
+
+/// Prints the archives by certify's answer, under the server's limits and under drawn ones.
+fn print(counts: &[Counts; 2]) {
+    for (counts, front) in counts.iter().zip(["", "drawn: "]) {
+        let (archives, certified) = counts.all();
+        for (name, number) in [("archives", archives), ("certified", certified)] {
+            println!("{:36}{number:9}", format!("{front}{name}"));
+        }
+        counts.print_under(front, 1..=9);
+    }
+}
+
+/// Every call on an archive in each place, under both limits, and that its answers are the same in all places.
 fn in_places(
     lenders: &mut Lenders,
     places: &[Place],
+    limits: [Limits; 2],
     bytes: &[u8],
     seed: u64,
 ) -> Result<(), String> {
@@ -118,8 +114,11 @@ fn in_places(
     for &place in places {
         let random = &mut Random::new(!seed);
         let mut trace = Vec::new();
-        read(lenders, place, bytes, random, &mut trace)
-            .and_then(|()| build(lenders, place, random, &mut trace))
+        let mut done = Ok(());
+        for limits in limits {
+            done = done.and_then(|()| read(lenders, limits, place, bytes, random, &mut trace));
+        }
+        done.and_then(|()| build(lenders, place, random, &mut trace))
             .map_err(|what| format!("{what}, placed {place:?}"))?;
         answers.push(trace);
     }
@@ -136,67 +135,107 @@ fn expect(holds: bool, what: &str) -> Result<(), String> {
     }
 }
 
-/// The readers; what they answer and write goes to the trace.
+/// The readers under limits; what they answer and write goes to the trace.
 fn read(
     lenders: &mut Lenders,
+    limits: Limits,
     place: Place,
     bytes: &[u8],
     random: &mut Random,
     trace: &mut Vec<String>,
 ) -> Result<(), String> {
-    let (layout, ours) = (lenders.layout, ours::at(lenders.layout));
+    let layout = lenders.layout;
+    let ours = ours::at(layout).under(limits);
     let archive = &*lenders.archive.lend(place, bytes);
     let (checked, certified) = (ours.check(archive), ours.certify(archive));
-    expect(checked == layout.check(bytes).map(narrow), "check")?;
-    expect(certified == layout.certify(bytes).map(narrow), "certify")?;
+    expect(checked == layout.check(limits, bytes).map(narrow), "check")?;
+    let right = layout.certify(limits, bytes).map(narrow);
+    expect(certified == right, "certify")?;
     let list = checked.map_or(Vec::new(), |_| layout.list(bytes));
     let own: Vec<u64> = list.iter().map(|entry| entry.key).collect();
 
-    let sought = trees::sought(&own, 3, random);
-    for &key in &sought {
-        let found = ours.lookup(archive, key);
-        let part = ours.lookup_bytes(archive, key);
-        let value = |entry: Found| entry.1.to_le_bytes().to_vec();
-        let value = found.map(|entry| entry.map_or(Vec::new(), value));
-        expect(part == value.as_deref().map_err(|&number| number), "a part")?;
-        trace.push(format!("{found:?}"));
-    }
-    let values = lenders.values.lend(place, &vec![BEFORE; random.below(5)]);
-    let given = &*lenders.given_keys.lend(place, &sought);
-    let many = ours.lookup_many(archive, given, values);
-    expect(many.is_ok() || kept(values, 0), "a refused lookup of many")?;
-    trace.push(format!("{many:?} {values:?}"));
-    expect(lenders.values.margin_kept(), "beside a lookup of many")?;
-
-    for call in 0..5 {
-        let rooms = [0, 1].map(|_| vec![BEFORE; random.below(2 * own.len() + 3)]);
-        let keys = lenders.keys.lend(place, &rooms[0]);
-        let values = lenders.values.lend(place, &rooms[1]);
-        let answer = match call {
-            0 => ours
-                .walk(archive, keys, values)
-                .map(|(written, count)| (written, count.into())),
-            1 | 2 => {
-                let (lower, upper) = trees::bounds(&own, random);
-                ours.range(archive, lower, upper, keys, values)
-            }
-            _ => {
-                let key = trees::sought(&own, 1, random)[0];
-                let column = columns::about(key, model::PACKINGS[call - 3], random);
-                ours.column(archive, column, keys, values)
-            }
-        };
-        let written = answer.map_or(0, |answer| answer.0) as usize;
-        expect(kept(keys, written) && kept(values, written), "past the end")?;
-        trace.push(format!(
-            "{answer:?} {:?} {:?}",
-            &keys[..written],
-            &values[..written]
-        ));
-        let beside = lenders.keys.margin_kept() && lenders.values.margin_kept();
-        expect(beside, "beside a lent list")?;
-    }
+    let given = Read {
+        ours,
+        place,
+        archive,
+        own: &own,
+    };
+    given.look_up(&mut lenders.lists, random, trace)?;
+    given.write(&mut lenders.lists, random, trace)?;
     expect(lenders.archive.margin_kept(), "beside the archive")
+}
+
+/// An archive that is lent, the calls that read it, and its keys.
+struct Read<'a> {
+    ours: At,
+    place: Place,
+    archive: &'a [u8],
+    own: &'a [u64],
+}
+
+impl Read<'_> {
+    /// Lookup in both forms, and of many keys.
+    fn look_up(
+        &self,
+        lists: &mut Lists,
+        random: &mut Random,
+        trace: &mut Vec<String>,
+    ) -> Result<(), String> {
+        let (ours, place) = (self.ours, self.place);
+        let (archive, own) = (self.archive, self.own);
+        let sought = trees::sought(own, 3, random);
+        for &key in &sought {
+            let found = ours.lookup(archive, key);
+            let part = ours.lookup_bytes(archive, key);
+            let value = |entry: Found| entry.1.to_le_bytes().to_vec();
+            let value = found.map(|entry| entry.map_or(Vec::new(), value));
+            expect(part == value.as_deref().map_err(|&number| number), "a part")?;
+            trace.push(format!("{found:?}"));
+        }
+        let values = lists.values.lend(place, &vec![BEFORE; random.below(5)]);
+        let given = &*lists.given_keys.lend(place, &sought);
+        let many = ours.lookup_many(archive, given, values);
+        expect(many.is_ok() || kept(values, 0), "a refused lookup of many")?;
+        trace.push(format!("{many:?} {values:?}"));
+        expect(lists.values.margin_kept(), "beside a lookup of many")
+    }
+
+    /// The calls that write keys and values: the walk, two ranges, and a column query by each packing.
+    fn write(
+        &self,
+        lists: &mut Lists,
+        random: &mut Random,
+        trace: &mut Vec<String>,
+    ) -> Result<(), String> {
+        let (ours, place) = (self.ours, self.place);
+        let (archive, own) = (self.archive, self.own);
+        for call in 0..5 {
+            let rooms = [0, 1].map(|_| vec![BEFORE; random.below(2 * own.len() + 3)]);
+            let keys = lists.keys.lend(place, &rooms[0]);
+            let values = lists.values.lend(place, &rooms[1]);
+            let answer = match call {
+                0 => ours
+                    .walk(archive, keys, values)
+                    .map(|(written, count)| (written, count.into())),
+                1 | 2 => {
+                    let (lower, upper) = trees::bounds(own, random);
+                    ours.range(archive, lower, upper, keys, values)
+                }
+                _ => {
+                    let key = trees::sought(own, 1, random)[0];
+                    let column = columns::about(key, model::PACKINGS[call - 3], random);
+                    ours.column(archive, column, keys, values)
+                }
+            };
+            let written = answer.map_or(0, |answer| answer.0) as usize;
+            expect(kept(keys, written) && kept(values, written), "past the end")?;
+            let written = (&keys[..written], &values[..written]);
+            trace.push(format!("{answer:?} {written:?}"));
+            let beside = lists.keys.margin_kept() && lists.values.margin_kept();
+            expect(beside, "beside a lent list")?;
+        }
+        Ok(())
+    }
 }
 
 /// Whether the places from one on are as they were before.
@@ -213,6 +252,7 @@ fn build(
     trace: &mut Vec<String>,
 ) -> Result<(), String> {
     let (layout, ours) = (lenders.layout, ours::at(lenders.layout));
+    let lists = &mut lenders.lists;
     let full = layout.entries;
     let (filled, next) = (full * (full + 2), (full + 1) * (full + 1));
     let mut count = random.pick(&[0, 1, full, full + 1, filled, next, 50]) + random.below(8);
@@ -220,15 +260,15 @@ fn build(
         count = most_at_16(full) - 3 + random.below(8);
     }
     let keys: Vec<u64> = (0..count as u64).map(|index| 3 * index).collect();
-    let keys = &*lenders.given_keys.lend(place, &keys);
-    let values = &*lenders.given_values.lend(place, keys);
+    let keys = &*lists.given_keys.lend(place, &keys);
+    let values = &*lists.given_values.lend(place, keys);
     let header = random.below(20);
     let front = vec![BYTE_BEFORE; header];
     let Right { archive, end, .. } = Right::of(full, &front, keys, values);
     let (short, long) = (random.below(end), end + random.below(30));
     let length = random.pick(&[end, end, long, short]);
     let right = if length < end { Err(14) } else { archive };
-    let output = lenders.output.lend(place, &vec![BYTE_BEFORE; length]);
+    let output = lists.output.lend(place, &vec![BYTE_BEFORE; length]);
     let answer = ours.build(output, header, keys, values);
     let number = right.as_ref().map(|archive| archive.len() as u32);
     expect(answer == number.map_err(|number| *number), "build")?;
@@ -240,9 +280,6 @@ fn build(
         expect(ours.certify(built) == Ok(count as u32), "certify")?;
     }
     trace.push(format!("{answer:?}"));
-    let beside = lenders.given_keys.margin_kept() && lenders.given_values.margin_kept();
-    expect(
-        beside && lenders.output.margin_kept(),
-        "beside build's lists",
-    )
+    let beside = lists.given_keys.margin_kept() && lists.given_values.margin_kept();
+    expect(beside && lists.output.margin_kept(), "beside build's lists")
 }

@@ -7,13 +7,15 @@ use rkyv::primitive::ArchivedU64;
 use rkyv::rancor::Error;
 
 use super::Lent;
-use crate::rkyv_map::{by_key, Accepted, Archive, MapOf};
+use crate::rkyv_map::{by_key, Accepted, Archive, MapOf, MAX_DEPTH};
 
 /// rkyv's check, as a caller has it in a release build. It and the functions below are functions of their own, as the
 /// proved calls are, so that they are the same code in every line of the table.
 #[inline(never)]
 pub fn accepted<const N: usize>(archive: &Archive) -> Accepted<'_, N> {
-    black_box(archive).validate_of::<Error, N>().unwrap()
+    black_box(archive)
+        .validate_of::<Error, N>(MAX_DEPTH)
+        .unwrap()
 }
 
 /// The same where it refuses.

@@ -1,8 +1,9 @@
-//! The check, the list of an accepted archive, certification and lookup, over a layout. The text is document 01's,
+//! The check, the list of an accepted archive, certification and lookup, over a layout; what is read of an accepted
+//! archive does not depend on limits. The text is document 01's,
 //! whose numbers 4, 5 and 6 of a field's bytes, a node's entries and a node's children are the layout's.
 
 use super::layout::{Layout, KEYS};
-use super::{too_long, DEPTH};
+use super::Limits;
 
 /// An entry, and the position of its value's first byte.
 pub struct Entry {
@@ -42,9 +43,9 @@ impl Layout {
         self.number(bytes, leaf + self.head())
     }
 
-    /// The check, 1 to 7, and the recorded count.
-    pub fn check(self, bytes: &[u8]) -> Result<u64, u8> {
-        if too_long(bytes) {
+    /// The check under limits, 1 to 7, and the recorded count.
+    pub fn check(self, limits: Limits, bytes: &[u8]) -> Result<u64, u8> {
+        if limits.too_long(bytes) {
             return Err(1);
         }
         if bytes.len() < self.record() {
@@ -53,6 +54,11 @@ impl Layout {
         let record = bytes.len() - self.record();
         if !record.is_multiple_of(self.width) {
             return Err(3);
+        }
+        // The record takes one of the depth, as each node does.
+        let depth = limits.counted().depth;
+        if depth == 1 {
+            return Err(5);
         }
         let count = self.recorded(bytes);
         // "A count of 0 is accepted without a look at the root"
@@ -64,7 +70,7 @@ impl Layout {
             bytes,
             start: 0,
             end: record,
-            depth: DEPTH - 1,
+            depth: depth - 1,
         };
         if walk.node(record)? != count {
             return Err(7);
@@ -143,9 +149,9 @@ impl Layout {
         (!ascend).then_some(9)
     }
 
-    /// Certification, 1 to 9: "accepted, with neither fault 8 nor 9", and the recorded count.
-    pub fn certify(self, bytes: &[u8]) -> Result<u64, u8> {
-        let count = self.check(bytes)?;
+    /// Certification under limits, 1 to 9: "accepted, with neither fault 8 nor 9", and the recorded count.
+    pub fn certify(self, limits: Limits, bytes: &[u8]) -> Result<u64, u8> {
+        let count = self.check(limits, bytes)?;
         self.fault(bytes).map_or(Ok(count), Err)
     }
 
@@ -184,7 +190,7 @@ struct Check<'a> {
     bytes: &'a [u8],
     start: usize,
     end: usize,
-    depth: u32,
+    depth: usize,
 }
 
 impl Check<'_> {

@@ -1,18 +1,38 @@
 //! The calls of C with any number of entries a node, also one that 24 refuses, which `rust/fieldmap` has no value for.
 
-/// A layout as it is named to a call: the bits of its width, of which every number but 16 and 64 means 32, and the entries a node.
+use crate::model::Limits;
+
+/// A layout as it is named to a call: the bits of its width, of which every number but 16 and 64 means 32, and the entries a node; and the limits
+/// that a reader is given.
 #[derive(Clone, Copy, Debug)]
 pub struct Named {
     pub width: u8,
     pub entries: usize,
+    pub limits: Limits,
 }
 
 extern "C" {
-    fn fieldmap_check(width: u8, entries: usize, archive: *const u8, length: usize) -> i64;
-    fn fieldmap_certify(width: u8, entries: usize, archive: *const u8, length: usize) -> i64;
+    fn fieldmap_check(
+        width: u8,
+        entries: usize,
+        longest: usize,
+        depth: usize,
+        archive: *const u8,
+        length: usize,
+    ) -> i64;
+    fn fieldmap_certify(
+        width: u8,
+        entries: usize,
+        longest: usize,
+        depth: usize,
+        archive: *const u8,
+        length: usize,
+    ) -> i64;
     fn fieldmap_lookup(
         width: u8,
         entries: usize,
+        longest: usize,
+        depth: usize,
         archive: *const u8,
         length: usize,
         key: u64,
@@ -22,6 +42,8 @@ extern "C" {
     fn fieldmap_lookup_bytes(
         width: u8,
         entries: usize,
+        longest: usize,
+        depth: usize,
         archive: *const u8,
         length: usize,
         key: u64,
@@ -30,6 +52,8 @@ extern "C" {
     fn fieldmap_lookup_many(
         width: u8,
         entries: usize,
+        longest: usize,
+        depth: usize,
         archive: *const u8,
         length: usize,
         keys: *const u64,
@@ -40,6 +64,8 @@ extern "C" {
     fn fieldmap_walk(
         width: u8,
         entries: usize,
+        longest: usize,
+        depth: usize,
         archive: *const u8,
         length: usize,
         keys: *mut u64,
@@ -51,6 +77,8 @@ extern "C" {
     fn fieldmap_range(
         width: u8,
         entries: usize,
+        longest: usize,
+        depth: usize,
         archive: *const u8,
         length: usize,
         lower_kind: u8,
@@ -66,6 +94,8 @@ extern "C" {
     fn fieldmap_column(
         width: u8,
         entries: usize,
+        longest: usize,
+        depth: usize,
         archive: *const u8,
         length: usize,
         packing: u8,
@@ -110,7 +140,8 @@ impl Named {
         keys: &mut [u64],
         values: &mut [u64],
     ) -> [i64; 8] {
-        let Self { width, entries } = self;
+        let Self { width, entries, .. } = self;
+        let Limits { longest, depth } = self.limits;
         let (start, length) = (archive.as_ptr(), archive.len());
         let (ks, kn) = (keys.as_mut_ptr(), keys.len());
         let (vs, vn) = (values.as_mut_ptr(), values.len());
@@ -119,20 +150,28 @@ impl Named {
         // SAFETY: the pointers are of slices of their own, each with its length, and of locals; the calls read and write nothing else.
         let answers = unsafe {
             [
-                fieldmap_check(width, entries, start, length),
-                fieldmap_certify(width, entries, start, length),
-                fieldmap_lookup(width, entries, start, length, 7, value, position),
-                fieldmap_lookup_bytes(width, entries, start, length, 7, part),
+                fieldmap_check(width, entries, longest, depth, start, length),
+                fieldmap_certify(width, entries, longest, depth, start, length),
+                fieldmap_lookup(
+                    width, entries, longest, depth, start, length, 7, value, position,
+                ),
+                fieldmap_lookup_bytes(width, entries, longest, depth, start, length, 7, part),
                 {
                     let (sought, number) = (sought.as_ptr(), sought.len());
-                    fieldmap_lookup_many(width, entries, start, length, sought, number, vs, vn)
+                    fieldmap_lookup_many(
+                        width, entries, longest, depth, start, length, sought, number, vs, vn,
+                    )
                 },
-                fieldmap_walk(width, entries, start, length, ks, kn, vs, vn, count),
+                fieldmap_walk(
+                    width, entries, longest, depth, start, length, ks, kn, vs, vn, count,
+                ),
                 fieldmap_range(
-                    width, entries, start, length, 2, 0, 2, 0, ks, kn, vs, vn, matching,
+                    width, entries, longest, depth, start, length, 2, 0, 2, 0, ks, kn, vs, vn,
+                    matching,
                 ),
                 fieldmap_column(
-                    width, entries, start, length, 1, 0, 2, -1, 1, ks, kn, vs, vn, in_column,
+                    width, entries, longest, depth, start, length, 1, 0, 2, -1, 1, ks, kn, vs, vn,
+                    in_column,
                 ),
             ]
         };
@@ -144,9 +183,13 @@ impl Named {
     /// The position of a value's bytes and their number, of lookup's second form, or the refusal.
     pub fn lookup_bytes(self, archive: &[u8], key: u64) -> Result<(usize, usize), u8> {
         let (bytes, length, mut start) = (archive.as_ptr(), archive.len(), 0);
+        let Self { width, entries, .. } = self;
+        let Limits { longest, depth } = self.limits;
         // SAFETY: as above.
         let answer = unsafe {
-            fieldmap_lookup_bytes(self.width, self.entries, bytes, length, key, &mut start)
+            fieldmap_lookup_bytes(
+                width, entries, longest, depth, bytes, length, key, &mut start,
+            )
         };
         number(answer).map(|length| (start as usize, length))
     }

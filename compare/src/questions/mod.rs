@@ -2,8 +2,10 @@
 //! and builds have pointers of the bits that rkyv is built for.
 
 pub mod archives;
+mod asked;
 mod build;
 pub mod builds;
+mod limits;
 mod packed;
 pub mod parts;
 

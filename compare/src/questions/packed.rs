@@ -2,8 +2,8 @@
 
 use std::ops::Bound;
 
-use super::archives::Case;
-use crate::model::{self, Column, KeyFields, Packing, OWN, PACKINGS};
+use super::asked::Case;
+use crate::model::{self, Column, KeyFields, Packing, OWN, PACKINGS, SERVER};
 use crate::rkyv_map;
 
 /// The ends of x and y, and the two sides of 0.
@@ -116,6 +116,7 @@ fn case(packing: Packing, points: Vec<KeyFields>, columns: Vec<Column>) -> Case 
         .collect();
     Case {
         entries: OWN.entries,
+        limits: SERVER,
         archive: rkyv_map::build(&[], &keys, &values),
         keys: vec![keys[0], keys[40]],
         ranges: vec![(Bound::Included(keys[3]), Bound::Excluded(keys[60]))],

@@ -1,6 +1,6 @@
 //! The proved code's answers against rkyv's, and against the model's where rkyv has none.
 
-use crate::model::{narrow, Layout, OUTSIDE};
+use crate::model::{narrow, Layout, Limits, OUTSIDE};
 use crate::oracle::Checked;
 use crate::ours::named::Named;
 use crate::ours::{self, At};
@@ -10,9 +10,10 @@ use crate::{columns, model};
 use super::lent::{lent, written, BEFORE};
 use super::{count, matching, same, Bounds};
 
-/// What is asked about an archive, and what is known of it: rkyv's check, the model's certify, and the list, which is empty where rkyv refuses.
+/// What is asked about an archive under limits, and what is known of it: rkyv's check, the model's certify, and the list, which is empty where rkyv refuses.
 pub struct Asked<'a> {
     layout: Layout,
+    limits: Limits,
     bytes: &'a [u8],
     checked: &'a Checked<'a>,
     certified: Result<u32, u8>,
@@ -22,15 +23,17 @@ pub struct Asked<'a> {
 impl<'a> Asked<'a> {
     pub fn new(
         layout: Layout,
+        limits: Limits,
         bytes: &'a [u8],
         checked: &'a Checked<'a>,
         list: &'a [(u64, u64)],
     ) -> Self {
         Self {
             layout,
+            limits,
             bytes,
             checked,
-            certified: layout.certify(bytes).map(narrow),
+            certified: layout.certify(limits, bytes).map(narrow),
             list,
         }
     }
@@ -52,7 +55,7 @@ impl<'a> Asked<'a> {
     }
 
     fn ours(&self) -> At {
-        ours::at(self.layout)
+        ours::at(self.layout).under(self.limits)
     }
 
     /// Check, certify, walk and lookups.
@@ -168,6 +171,7 @@ impl<'a> Asked<'a> {
         let named = Named {
             width: ours::bits(self.layout.width, random.number()),
             entries: random.pick(&OUTSIDE),
+            limits: self.limits,
         };
         let (mut keys, mut values) = lent(self.list, random);
         let before = (keys.clone(), values.clone());

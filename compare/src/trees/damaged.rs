@@ -2,7 +2,7 @@
 
 use super::{built, grown, Random};
 use crate::by_hand::{offset, put};
-use crate::model::{Layout, Node, KEYS};
+use crate::model::{Layout, Node, KEYS, SERVER};
 
 /// A built or grown archive with something changed.
 pub fn damaged(layout: Layout, random: &mut Random) -> Vec<u8> {
@@ -14,7 +14,7 @@ pub fn damaged(layout: Layout, random: &mut Random) -> Vec<u8> {
     let changes = random.pick(&[1, 1, 1, 2, 3]);
     for _ in 0..changes {
         // Where the nodes are is only known while the archive is accepted.
-        if layout.check(&bytes).is_ok() {
+        if layout.check(SERVER, &bytes).is_ok() {
             damage(layout, &mut bytes, random);
         }
     }

@@ -1,19 +1,25 @@
 //! Archives at the edges of a layout: most are one step from another answer. The same on every run.
 
 use super::complete;
-use crate::model::{Layout, KEYS, LONGEST};
+use crate::model::{Layout, KEYS, SERVER, VIEWER};
 
 /// All of them.
 pub fn edges(layout: Layout) -> Vec<Vec<u8>> {
     let mut archives = Vec::new();
-    for length in (0..=3 * layout.record()).chain(LONGEST - 1..=LONGEST + 8) {
+    let about = |length| length - 1..=length + 8;
+    let short = 0..=3 * layout.record();
+    for length in short.chain(
+        [VIEWER, SERVER]
+            .into_iter()
+            .flat_map(|limits| about(limits.longest)),
+    ) {
         archives.extend([0, 1, 165].map(|fill| vec![fill; length]));
     }
     for missing in (0..=16).step_by(layout.width) {
         archives.extend([0, 1].map(|kind| cut(layout, kind, missing)));
     }
     let full = layout.entries as u64;
-    for depth in [1, 2, 13, 14, 15] {
+    for depth in 1..=SERVER.depth {
         archives.extend([0, 1, full, full + 1].map(|count| nested(layout, depth, count)));
     }
     let entries = 3 * layout.entries as u64;
