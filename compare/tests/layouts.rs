@@ -3,7 +3,7 @@
 use compare::building::{most_at_16, Right};
 use compare::cases::examination;
 use compare::counts::LeftOut;
-use compare::model::{self, Layout, RANGE};
+use compare::model::{Layout, RANGE, SERVER};
 use compare::readers;
 use compare::rkyv_map::{Archive, MapOf, BITS};
 use compare::trees::{self, Random};
@@ -68,10 +68,13 @@ fn generated() {
         for seed in 0..2_000 {
             let archive = Archive::copy(&trees::archive_at(layout, seed, u64::MAX));
             let bytes = archive.bytes();
-            answers[layout.certify(bytes).map_or_else(usize::from, |_| 0)] += 1;
-            assert!(!model::too_long(bytes));
+            answers[layout
+                .certify(SERVER, bytes)
+                .map_or_else(usize::from, |_| 0)] += 1;
+            assert!(!SERVER.too_long(bytes));
             let random = &mut Random::new(!seed);
-            let compared = readers::compare(entries, &archive, random, &mut LeftOut::default());
+            let compared =
+                readers::compare(entries, SERVER, &archive, random, &mut LeftOut::default());
             assert_eq!(compared, Ok(()), "seed {seed}, {entries} entries a node");
         }
         answers[1] = 20;

@@ -2,7 +2,7 @@
 
 use std::ops::Bound;
 
-use compare::model::{self, KeyFields, Packing};
+use compare::model::{self, KeyFields, Limits, Packing, OWN};
 #[cfg(feature = "ours")]
 use compare::ours;
 use compare::rkyv_map::{self, Found};
@@ -11,6 +11,14 @@ pub fn check(archive: &[u8]) -> Result<u32, u8> {
     let answer = model::check(archive);
     #[cfg(feature = "ours")]
     assert_eq!(ours::check(archive), answer);
+    answer
+}
+
+/// The check under limits.
+pub fn check_under(limits: Limits, archive: &[u8]) -> Result<u32, u8> {
+    let answer = OWN.check(limits, archive).map(model::narrow);
+    #[cfg(feature = "ours")]
+    assert_eq!(ours::at(OWN).under(limits).check(archive), answer);
     answer
 }
 

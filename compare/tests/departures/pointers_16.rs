@@ -2,7 +2,7 @@
 #![cfg(feature = "pointer_width_16")]
 
 use compare::building::most_at_16;
-use compare::model::{Layout, LONGEST_HEADER};
+use compare::model::{Layout, LONGEST_HEADER, SERVER};
 use compare::oracle::build;
 use compare::trees::Complete;
 
@@ -24,7 +24,7 @@ fn here(header: usize, keys: &[u64]) -> (Result<Vec<u8>, u8>, usize) {
         Err(16)
     };
     if let Ok(archive) = &archive {
-        assert_eq!(LAYOUT.certify(archive), Ok(keys.len() as u64));
+        assert_eq!(LAYOUT.certify(SERVER, archive), Ok(keys.len() as u64));
     }
     #[cfg(feature = "ours")]
     {
