@@ -3,3 +3,4 @@ pub mod N2
 pub mod N5
 pub mod N8
 pub mod N9
+pub mod N12
