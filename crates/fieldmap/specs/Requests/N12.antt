@@ -25,7 +25,7 @@ use Rattle.format.specs.Laws.Calls.Accepted.{lookup-refuses, walk-refuses}
 use Rattle.format.specs.Laws.Calls.Certified.{range-refuses}
 use Rattle.format.specs.Laws.Calls.Limits.{accepts-same, certify-same, refuses-same, uncertified-same, lookup-call-same, bytes-same, place-same}
 use Rattle.format.specs.Laws.Calls.Limits.{walk-same, walk-keys-same, walk-values-same, range-same, range-keys-same, range-values-same}
-use Rattle.format.specs.Laws.Calls.Limits.{column-same, column-keys-same, column-values-same}
+use Rattle.format.specs.Laws.Calls.Limits.{column-same, column-keys-same, column-values-same, column-refuses-same}
 use Rattle.fieldmap.specs.Refusals.{lookup-refused, walk-refused, range-refused}
 use Rattle.fieldmap.specs.Demands.{demand-3-build}
 
@@ -133,6 +133,10 @@ module _ (L : Layout) {M M′ : Limits} (w : Within M M′) (s : List ℕ) where
 
     pub n12-range : (lo hi : Bound) (ks vs : List ℕ) → rangeCall L M s lo hi ks vs ≡ refuses r → rangeCall L M′ s lo hi ks vs ≡ refuses r
     n12-range lo hi ks vs e = range-refuses L M′ s r (n12-uncertified (range-refused L M s lo hi ks vs r e)) lo hi ks vs
+
+    pub n12-column : (P : Packing) (exam eye : ℕ) (a b : ℤ) (ks vs : List ℕ) → columnCall L M s P exam eye a b ks vs ≡ refuses r
+        → columnCall L M′ s P exam eye a b ks vs ≡ refuses r
+    n12-column P exam eye a b ks vs e = column-refuses-same L w s P exam eye a b ks vs r e another
 
 -- The viewer's limits are nowhere above the server's, and both count as they are.
 pub n12-viewer-server : Within viewer server

@@ -26,14 +26,14 @@ use Rattle.format.specs.Laws.Check.Limits.{same-check}
 use Rattle.format.specs.Laws.Read.Node.{root-node, list-within, lookup-within, hollow-within}
 use Rattle.format.specs.Laws.Calls.Accepted.{is-archive, certify-refuses, lookup-accepted, bytes-accepted, place-accepted}
 use Rattle.format.specs.Laws.Calls.Accepted.{walk-accepted, walk-keys-accepted, walk-values-accepted}
-use Rattle.format.specs.Laws.Calls.Certified.{range-certified, range-keys-certified, range-values-certified}
+use Rattle.format.specs.Laws.Calls.Certified.{certified-accepts, range-certified, range-keys-certified, range-values-certified}
 use Rattle.format.specs.Laws.Calls.Certified.{range-refuses, range-keys-refuses, range-values-refuses, column-uncertified, column-refused}
 use Rattle.format.specs.Laws.Calls.Certified.{column-keys-refused, column-values-refused, column-ranges, column-keys-ranges, column-values-ranges}
 
 gives≢refuses : {n r : ℕ} → gives n ≡ refuses r → ⊥
 gives≢refuses e = let z : _≡_ {A = ℕ} 0 1 = cc in omega arith
 
-refused-one : {q r : ℕ} → _≡_ {A = Answer ℕ} (refuses q) (refuses r) → q ≡ r
+refused-one : {A : Type 0} {q r : ℕ} → _≡_ {A = Answer A} (refuses q) (refuses r) → q ≡ r
 refused-one e = cc
 
 module _ (L : Layout) {M M′ : Limits} (w : Within M M′) (s : List ℕ) where
@@ -183,3 +183,13 @@ module _ (L : Layout) {M M′ : Limits} (w : Within M M′) (s : List ℕ) where
       go (refused q) e =
           let z : q ≡ r = refused-one (sym (certify-refuses L M s q (ap counted e)) ∙ u) in
           certify-refuses L M′ s r (refuses-same r (rw z at (ap counted e)) never)
+
+  pub column-refuses-same : (P : Packing) (exam eye : ℕ) (x y : ℤ) (ks vs : List ℕ) (r : ℕ) → columnCall L M s P exam eye x y ks vs ≡ refuses r
+      → (OfLimits r → ⊥) → columnCall L M′ s P exam eye x y ks vs ≡ refuses r
+  column-refuses-same P exam eye x y ks vs r e never = go (certify L M s) refl
+    where
+      go : (c : Checked) → certify L M s ≡ c → columnCall L M′ s P exam eye x y ks vs ≡ refuses r
+      go (accepted n t) ec = sym (column-same n (certified-accepts L M s n (ap counted ec)) P exam eye x y ks vs) ∙ e
+      go (refused q) ec =
+          let z : q ≡ r = refused-one (sym (column-uncertified L M s P exam eye x y ks vs q (ap counted ec)) ∙ e) in
+          column-uncertified L M′ s P exam eye x y ks vs r (uncertified-same r (rw z at (ap counted ec)) never)
