@@ -75,11 +75,11 @@ pub fn check(archive: &[u8], layout: Layout, limits: Limits) -> CheckAnswer
         return CheckAnswer::Refused(Refusal::EntriesOutOfRange);
     }
     let most = limits.counted();
+    let record = layout.record();
     let length = archive.len();
     if length > most.longest {
         return CheckAnswer::Refused(Refusal::ArchiveTooLong);
     }
-    let record = layout.record();
     if length < record {
         return CheckAnswer::Refused(Refusal::InvalidSubtreePointer);
     }

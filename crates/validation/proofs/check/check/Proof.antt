@@ -117,8 +117,8 @@ check-spec =
     (search needs)
     returns
     (search needs)
-    returns-2
     (search needs)
+    returns-2
     returns-3
     (search needs)
     (search needs)
