@@ -5,7 +5,6 @@ use fields::primitive::u32_at;
 use fields::primitive::u64_at;
 use fields::primitive::uint_at;
 use format::Layout;
-use format::Server;
 use offsets::rel_ptr::ones;
 use quick::Passed;
 use quick::quick_node;
@@ -13,7 +12,7 @@ ghost use mathlib.Core.Path.{_≡_};
 ghost use mathlib.Core.Bool.{true};
 ghost use Prim.Native.Nat.{ℕ, suc, _+_, _≤_, _<_, _^_};
 ghost use lib.ListN.{length};
-ghost use Rattle.format.specs.Layout.{layoutOf, bytes, signBits, pointer, innerSize};
+ghost use Rattle.format.specs.Layout.{layoutOf, server, bytes, signBits, pointer, innerSize};
 ghost use Rattle.format.specs.Bytes.{leAt};
 ghost use Rattle.quick.specs.Quick.{Passes, Below, Root};
 ghost use Rattle.numbers.specs.Numbers.{widthFor, numbered, Numbers, AbsentFrom, InnerBack};
@@ -223,13 +222,10 @@ pub fn inner_root(archive: &[u8], layout: Layout, at: usize) -> usize
 
 // The entries of the inner node to which the record's field leads and of all below it, or 0. The common layout goes on with constants.
 pub fn quick_root(archive: &[u8], layout: Layout, at: usize, depth: usize) -> usize
-    requires { ⌜ (layout .entries ≤ 15) × (at + pointer (layoutOf layout) ≤ length (now archive)) ⌝ }
+    requires { ⌜ (layout .entries ≤ 15) × (at + pointer (layoutOf layout) ≤ length (now archive)) × (length (now archive) ≤ server .longest) ⌝ }
     ensures { λ r. ⌜ (0 < r → Root (layoutOf layout) (now (archive .entry)) depth at r) ⌝ }
 {
     if depth == 0 {
-        return 0;
-    }
-    if archive.len() > Server::LONGEST {
         return 0;
     }
     let p = inner_root(archive, layout, at);

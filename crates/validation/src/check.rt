@@ -20,7 +20,7 @@ use subtrees::node::refused_ptr;
 ghost use mathlib.Core.Path.{_≡_};
 ghost use Prim.Native.Nat.{_-_, _≤_, _<_};
 ghost use lib.ListN.{length};
-ghost use Rattle.format.specs.Layout.{layoutOf, Limits as GivenLimits, limitsOf, recordSize};
+ghost use Rattle.format.specs.Layout.{layoutOf, Limits as GivenLimits, limitsOf, server, recordSize};
 ghost use Rattle.format.specs.Refusal.{checkOf};
 ghost use Rattle.format.specs.Check.{counted, recorded, checkRoot, checkArchive};
 
@@ -32,7 +32,7 @@ fn verify(
     depth: usize,
     at: Position,
 ) -> CheckAnswer
-    requires { ⌜ (layout .entries ≤ 15) × (recordSize (layoutOf layout) ≤ length (now archive))
+    requires { ⌜ (layout .entries ≤ 15) × (length (now archive) ≤ server .longest) × (recordSize (layoutOf layout) ≤ length (now archive))
         × (at .0 ≡ length (now archive) - recordSize (layoutOf layout))
         × (range .start .0 ≡ 0) × (range .end .0 ≡ at .0) × (0 < depth) ⌝ }
     ensures { λ r. ⌜ ((M : GivenLimits) → depth ≡ M .depth - 1 → checkOf r ≡ counted

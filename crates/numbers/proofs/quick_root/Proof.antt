@@ -3,7 +3,7 @@ use mathlib.Core.Path.{_≡_, refl, sym, ap, subst, _∙_}
 use Prim.Native.Nat.{ℕ, _-_}
 use native.Mathlib.Omega.{arith}
 use borrow.Author.Needs.{needs}
-use Rattle.format.specs.Layout.{Layout, layoutOf, widthOf, server, innerSize}
+use Rattle.format.specs.Layout.{Layout, layoutOf, widthOf, innerSize}
 use Rattle.quick.specs.Quick.{Below, Root}
 use Rattle.numbers.specs.Numbers.{numbered, Numbers, InnerBack}
 use Rattle.quick.proofs.Passing.{root-passes}
@@ -12,7 +12,7 @@ use Rattle.numbers.proofs.quick_root.Statement.{statement}
 use Rattle.numbers.proofs.quick_root.Tie as tie
 
 -- The record's field leads back to an inner node in its place.
-module _ (c : tie.Else3) where
+module _ (c : tie.Else2) where
   abbrev start : tie.Start
   start = search
 
@@ -30,27 +30,25 @@ module _ (c : tie.Else3) where
   passes w = root-passes L _ _ _ (root .to) (root .aligned) (root .inner) refl (root .room) (omega arith) w
 
 quick-node-requires : tie.Need-quick-node-requires
-unfolding server
 quick-node-requires c κs =
     let asked : tie.After-is-common = search in
-    let short : tie.Else2 = search in
-    let there : tie.Else3 = search in
-    let same = ap innerSize (asked .is-common .ensures (c .if4 .taken)) in
-    (root there .aligned, omega (arith, same, root there .room, start there .pre .1), omega (arith, short .if2 .left), omega arith)
+    let there : tie.Else2 = search in
+    let same = ap innerSize (asked .is-common .ensures (c .if3 .taken)) in
+    (root there .aligned, omega (arith, same, root there .room, start there .pre .1), start there .pre .2, omega arith)
 
-returns-4 : tie.Need-returns-4
-returns-4 c =
+returns-3 : tie.Need-returns-3
+returns-3 c =
     let asked : tie.After-is-common = search in
-    let common : tie.Then4 = search in
-    let there : tie.Else3 = search in
+    let common : tie.Then3 = search in
+    let there : tie.Else2 = search in
     let a = start there .args in
     λ h. passes there
-    (subst (λ (M : Layout). Below M (a .archive .now) (a .depth - 1) 0 (p there) (c .quick-node .result)) (sym (asked .is-common .ensures (common .if4 .taken)))
+    (subst (λ (M : Layout). Below M (a .archive .now) (a .depth - 1) 0 (p there) (c .quick-node .result)) (sym (asked .is-common .ensures (common .if3 .taken)))
     (c .quick-node .ensures h))
 
 -- The layout as numbers.
 module _ (c : tie.After-ones) where
-  abbrev there : tie.Else3
+  abbrev there : tie.Else2
   there = search
 
   abbrev wide : tie.After-pointer
@@ -67,8 +65,8 @@ node-below-requires c κs =
     let all : tie.After-ones = search in
     (numbers all, omega arith, omega (arith, ap innerSize (same all), root (there all) .room, start (there all) .pre .1))
 
-returns-5 : tie.Need-returns-5
-returns-5 c =
+returns-4 : tie.Need-returns-4
+returns-4 c =
     let all : tie.After-ones = search in
     let a = start (there all) .args in
     λ h. passes (there all)
@@ -79,15 +77,14 @@ quick-root-spec =
     tie.close
     (tie.spec
     (λ c. λ h. absurd (omega arith))
-    (λ c. λ h. absurd (omega arith))
     (search needs)
     (λ c. λ h. absurd (omega arith))
     (search needs)
     (search needs)
     quick-node-requires
-    returns-4
+    returns-3
     (search needs)
     (search needs)
     (search needs)
     node-below-requires
-    returns-5)
+    returns-4)

@@ -7,6 +7,7 @@ use lib.ListN.{length}
 use Prim.Native.Nat.{_-_, _≤_, _<_}
 use Rattle.format.specs.Layout.{layoutOf, entriesInRange, Limits, limitsOf, recordSize, recordAlign}
 use Rattle.format.specs.Laws.Numbers.Widths.{range-in}
+use Rattle.format.specs.Laws.Numbers.Limits.{within-server}
 use Rattle.subtrees.specs.Subtree.{opened}
 use Rattle.subtrees.proofs.Places.{opened-held}
 use Rattle.subtrees.specs.declared.archive.SubtreeRange.{SubtreeRange}
@@ -87,10 +88,13 @@ verify-requires c κs =
     let e = pushed .push-subtree-range .ensures in
     let told : tie.After-enum-told = search in
     let long : tie.Else3 = search in
+    let not-long : tie.Else2 = search in
     let in-range : tie.Else1 = search in
     let start : tie.Start = search in
+    let named-limits = start .args .limits in
     let sized : tie.After-record = search in (
       range-in (layoutOf (start .args .layout)) (named in-range) .1,
+      omega (arith, short not-long, within-server (record { longest = named-limits .longest; depth = named-limits .depth }) .longest),
       room long,
       omega (arith, sized .record .ensures .0),
       ap (λ (r : SubtreeRange). r .start .0) e,

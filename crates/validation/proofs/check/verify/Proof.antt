@@ -23,7 +23,7 @@ module _ (c : tie.After-uint-at) where
   count = rw (c .before .pointer .ensures .0) at (c .uint-at .ensures .0)
 
 returns : tie.Need-returns
-returns c = let read : tie.After-uint-at = search in λ M depth. root-none _ M _ (start read .pre .2) (count read) (c .if1 .taken)
+returns c = let read : tie.After-uint-at = search in λ M depth. root-none _ M _ (start read .pre .3) (count read) (c .if1 .taken)
 
 sub-quick-root : tie.Need-sub-quick-root
 sub-quick-root c = omega arith
@@ -37,7 +37,7 @@ returns-2 c =
     let some : tie.Else1 = search in
     let read : tie.After-uint-at = search in
     let root = quick .quick-root .ensures (c .before .if2 .taken) in
-    λ M depth. count-agrees _ M _ (start read .pre .2) (count read) (some .if1 .left) depth refl refl (root .is) (c .if3 .taken)
+    λ M depth. count-agrees _ M _ (start read .pre .3) (count read) (some .if1 .left) depth refl refl (root .is) (c .if3 .taken)
 
 returns-3 : tie.Need-returns-3
 returns-3 c =
@@ -45,7 +45,7 @@ returns-3 c =
     let some : tie.Else1 = search in
     let read : tie.After-uint-at = search in
     let root = quick .quick-root .ensures (c .before .if2 .taken) in
-    λ M depth. count-differs _ M _ (start read .pre .2) (count read) (some .if1 .left) depth refl refl (root .is) (c .if3 .left)
+    λ M depth. count-differs _ M _ (start read .pre .3) (count read) (some .if1 .left) depth refl refl (root .is) (c .if3 .left)
 
 check-inner-node-requires : tie.Need-check-inner-node-requires
 check-inner-node-requires c κs =
@@ -71,7 +71,7 @@ returns-4 c =
     let some : tie.Else1 = search in
     let read : tie.After-uint-at = search in
     let pre = start read .pre in
-    λ M depth. root-refused _ M _ (pre .2) (count read) (some .if1 .left) depth (pre .3) (pre .4) (answer met)
+    λ M depth. root-refused _ M _ (pre .3) (count read) (some .if1 .left) depth (pre .4) (pre .5) (answer met)
     (told .enum-told .given .1) (c .refused-node .ensures)
 
 returns-5 : tie.Need-returns-5
@@ -81,7 +81,7 @@ returns-5 c =
     let some : tie.Else1 = search in
     let read : tie.After-uint-at = search in
     let pre = start read .pre in
-    λ M depth. root-differs _ M _ (pre .2) (count read) (some .if1 .left) depth (pre .3) (pre .4) (answer met)
+    λ M depth. root-differs _ M _ (pre .3) (count read) (some .if1 .left) depth (pre .4) (pre .5) (answer met)
     (told .root .given .1) (c .if4 .taken)
 
 returns-6 : tie.Need-returns-6
@@ -91,7 +91,7 @@ returns-6 c =
     let some : tie.Else1 = search in
     let read : tie.After-uint-at = search in
     let pre = start read .pre in
-    λ M depth. root-entries _ M _ (pre .2) (count read) (some .if1 .left) depth (pre .3) (pre .4) (answer met)
+    λ M depth. root-entries _ M _ (pre .3) (count read) (some .if1 .left) depth (pre .4) (pre .5) (answer met)
     (told .root .given .1) (c .if4 .left)
 
 pub verify-spec : {M : Type 1} → statement M
