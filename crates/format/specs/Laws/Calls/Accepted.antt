@@ -200,7 +200,7 @@ module _ (L : Layout) (M : Limits) (s : List ℕ) where
             go zero h = absurd (omega arith)
             go (suc r) h = rw leads (list-within L within s own)
 
-        pub hollow-root : hollowOf L M s (recorded L s) ≡ hollowAt L s (nested M′) q
+        hollow-root : hollowOf L M s (recorded L s) ≡ hollowAt L s (nested M′) q
         hollow-root = go (recorded L s) some
           where
             go : (r : ℕ) → 0 < r → hollowOf L M s r ≡ hollowAt L s (nested M′) q

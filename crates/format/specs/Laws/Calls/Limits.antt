@@ -57,11 +57,11 @@ module _ (L : Layout) {M M′ : Limits} (w : Within M M′) (s : List ℕ) where
     top : (R : Rooted L M s) → Node L M s (R .pos)
     top R = root-node L M s (is-archive L M s n a) R
 
-    pub list-same : list L M s ≡ list L M′ s
+    list-same : list L M s ≡ list L M′ s
     unfolding list
     list-same = by-root (listOf L M s) (listOf L M′ s) refl (λ r R. rw (R .leads) (list-within L w s (top R)))
 
-    pub lookup-same : (k : ℕ) → lookup L M s k ≡ lookup L M′ s k
+    lookup-same : (k : ℕ) → lookup L M s k ≡ lookup L M′ s k
     unfolding lookup
     lookup-same k = by-root (lookupOf L M s k) (lookupOf L M′ s k) refl (λ r R. rw (R .leads) (lookup-within L w s (top R) k))
 

@@ -1,4 +1,4 @@
--- What named limits count as: between those of depth 1 and the server's, and in the order of the names. Assumes nothing.
+-- What named limits count as: none above the server's, and in the order of the names. Assumes nothing.
 use Prim.Native.Nat.{_≤_}
 use native.Mathlib.Omega.{arith}
 use Rattle.format.specs.Layout.{Limits, viewer, server, countsAs, Within, nested}
@@ -6,10 +6,6 @@ use Rattle.format.specs.Layout.{Limits, viewer, server, countsAs, Within
 pub within-server : (M : Limits) → Within (countsAs M) server
 unfolding server countsAs
 within-server M = record { longest = omega arith; depth = omega arith }
-
-pub least-depth : (M : Limits) → 1 ≤ countsAs M .depth
-unfolding server countsAs
-least-depth M = omega arith
 
 pub counts-within : {M M′ : Limits} → Within M M′ → Within (countsAs M) (countsAs M′)
 unfolding server countsAs
