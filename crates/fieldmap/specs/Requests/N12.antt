@@ -1,6 +1,6 @@
 -- Document 02, N12, "The waiting-room viewer", as theorems. The words in quotes are its own. Assumes nothing.
 use Prim.Native.Nat.{ℕ, _≤_, _<_}
-use mathlib.Core.Path.{_≡_, refl, ap}
+use mathlib.Core.Path.{_≡_, refl, sym, ap, subst}
 use mathlib.Core.Bool.{true}
 use mathlib.Core.List.{List}
 use mathlib.Core.Logic.{_↔_}
@@ -12,16 +12,18 @@ use Rattle.format.specs.declared.Packing.{Packing}
 use Rattle.format.specs.Layout.{Layout, layout32, entriesInRange, Limits, viewer, server, countsAs, Within, nested}
 use Rattle.format.specs.Refusal.{gives, refuses, OfLimits}
 use Rattle.format.specs.Bytes.{AllWords}
-use Rattle.format.specs.Check.{counted, checkArchive}
+use Rattle.format.specs.RelPtr.{at, target}
+use Rattle.format.specs.Check.{counted, root, checkArchive}
 use Rattle.format.specs.Certify.{certify}
 use Rattle.format.specs.Build.{build, outAfter}
+use Rattle.format.specs.NodeRelation.{Valid}
 use Rattle.format.specs.NestedNodes.{nestedNodes}
 use Rattle.format.specs.Calls.{lookupCall, bytesCall, placeCall, walkCall, walkKeys, walkValues, rangeCall, rangeKeys, rangeValues}
 use Rattle.format.specs.Calls.{columnCall, columnKeys, columnValues}
 use Rattle.format.specs.Laws.Numbers.Limits.{counts-within, viewer-server, within-server}
 use Rattle.format.specs.Laws.Check.Depth.{viewer-deepest, viewer-too-deep}
 use Rattle.format.specs.Laws.Check.Refusals.{refusal-1}
-use Rattle.format.specs.Laws.Calls.Accepted.{lookup-refuses, walk-refuses}
+use Rattle.format.specs.Laws.Calls.Accepted.{is-archive, is-recorded, lookup-refuses, walk-refuses}
 use Rattle.format.specs.Laws.Calls.Certified.{range-refuses}
 use Rattle.format.specs.Laws.Calls.Limits.{accepts-same, certify-same, refuses-same, uncertified-same, lookup-call-same, bytes-same, place-same}
 use Rattle.format.specs.Laws.Calls.Limits.{walk-same, walk-keys-same, walk-values-same, range-same, range-keys-same, range-values-same}
@@ -29,7 +31,8 @@ use Rattle.format.specs.Laws.Calls.Limits.{column-same, column-keys-same, colum
 use Rattle.fieldmap.specs.Refusals.{lookup-refused, walk-refused, range-refused}
 use Rattle.fieldmap.specs.Demands.{demand-3-build}
 
--- "The viewer takes at most 4,096 bytes and depth 5, so three nested nodes": three pass, and the fourth is refused by 5.
+-- "The viewer takes at most 4,096 bytes and depth 5, so three nested nodes": three pass, and the fourth is refused by 5; at every layout, of what it accepts
+-- at most three are nested from the root on.
 pub n12-viewer : (viewer .longest ≡ 4096) × ((viewer .depth ≡ 5) × (nested viewer ≡ 3))
 unfolding viewer nested
 n12-viewer = (refl, (refl, refl))
@@ -39,6 +42,18 @@ n12-three = viewer-deepest
 
 pub n12-fourth : counted (checkArchive layout32 viewer (nestedNodes 3)) ≡ refuses 5
 n12-fourth = viewer-too-deep
+
+pub record Nested (L : Layout) (s : List ℕ) (n : ℕ) : Type 0 where
+  pub pos : ℕ
+  pub leads : target L s (root L s) ≡ at pos
+  pub valid : Valid L s 3 0 (root L s) pos n
+
+pub n12-nested : (L : Layout) (s : List ℕ) (n : ℕ) → counted (checkArchive L viewer s) ≡ gives n → 0 < n → Nested L s n
+unfolding viewer nested
+n12-nested L s n e some =
+    let r = is-recorded L viewer s n e in
+    let R = is-archive L viewer s n e .rooted (omega arith) in
+    record { pos = R .pos; leads = R .leads; valid = subst (λ (m : ℕ). Valid L s 3 0 (root L s) (R .pos) m) (sym r) (R .valid) }
 
 -- "the server keeps 1,048,576 and 16"
 pub n12-server : (server .longest ≡ 1048576) × (server .depth ≡ 16)
