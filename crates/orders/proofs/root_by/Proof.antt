@@ -93,7 +93,8 @@ returns-5 c =
     let below = asked .node-by .ensures (omega arith) in
     certified-below (L here) (s here) M
     (sym (count .uint-at .ensures .0 ∙ ap (leAt (pointer (L here)) (s here)) (omega (arith, place here, wide here .pointer .ensures .0)))) h
-    (inner here .to) (range here) short (room here) (even here) (omega (arith, entry here .pre .2)) (inner here .aligned) (inner here .inner) refl (inner here .room)
+    (inner here .to) (range here) short (room here) (even here) (omega (arith, entry here .pre .2))
+    (inner here .aligned) (inner here .inner) refl (inner here .room)
     (subst (λ (d : ℕ). KeysBelow (L here) (s here) d 0 (p here) 0 0 (count .uint-at .result) last) e
     (subst (λ (N : Layout). KeysBelow N (s here) left 0 (p here) 0 0 (count .uint-at .result) last) (same all)
     (subst (λ (m : ℕ). KeysBelow (by-numbers all) (s here) left 0 (p here) 0 0 m last) (c .if4 .left) below)))

@@ -20,7 +20,7 @@ use Rattle.validation.proofs.check.check.Tie as tie
 named : (c : tie.Else1) → let start : tie.Start = search in entriesInRange (layoutOf (start .args .layout)) ≡ true
 named c = let tested : tie.After-in-range = search in sym (tested .in-range .ensures) ∙ not-false _ (c .if1 .left)
 
--- The limits as the caller names them, and what they count as.
+-- What the limits count as that the caller names.
 abbrev under : tie.Start → Limits
 under start = limitsOf (start .args .limits)
 
