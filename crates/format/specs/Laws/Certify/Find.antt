@@ -10,6 +10,7 @@ use Rattle.format.specs.Lookup.{find, In, first, later}
 use Rattle.format.specs.Laws.Certify.Ascend.{find-hit, find-miss}
 
 above_in : (k : ℕ) (l : List Entry) → Above k l → (e : Entry) → In e l → k < e.key
+above_in k [] a e i = elim i [ ]
 above_in k (x ∷ l) a e first = a.0
 above_in k (x ∷ l) a e (later i) = above_in k l a.1 e i
 
@@ -25,6 +26,7 @@ find-found k (x ∷ l) e h = go (eqb x.key k) refl (find-found k l e)
     go false eb ih = let (i, ek) = ih (sym (find-miss k x l (eqb-false _ _ eb)) ∙ h) in (later i, ek)
 
 pub find-nothing : (k : ℕ) (l : List Entry) → find k l ≡ nothing → (e : Entry) → In e l → e.key ≢ k
+find-nothing k [] h e i ek = elim i [ ]
 find-nothing k (x ∷ l) h e first ek = let z : ◌≡◌ {A = ℕ} 0 1 = cc (find-hit k x l ek) in omega arith
 find-nothing k (x ∷ l) h e (later i) ek = go (eqb x.key k) refl (find-nothing k l)
   where
@@ -33,6 +35,7 @@ find-nothing k (x ∷ l) h e (later i) ek = go (eqb x.key k) refl (find-nothing 
     go false eb ih = ih (sym (find-miss k x l (eqb-false _ _ eb)) ∙ h) e i ek
 
 pub find-one : (l : List Entry) → Ascending l → (e : Entry) → In e l → find e.key l ≡ found e
+find-one [] a e i = elim i [ ]
 find-one (x ∷ l) a e first = find-hit e.key x l refl
 find-one (x ∷ l) a e (later i) =
     let h = above_in x.key l a.0 e i in

@@ -201,6 +201,7 @@ module _ (f : Entry → Bool) where
   selected-passes e (x ∷ l) i = one_passes (f x) x e l refl (selected-passes e l) i
 
   passing-selected : (e : Entry) (l : List Entry) → In e l → f e ≡ true → In e (select f l)
+  passing-selected e [] i t = elim i [ ]
   passing-selected e (x ∷ l) first t = subst (λ (b : Bool). In e (elim b [ true ↦ e ∷ select f l | false ↦ select f l ])) (sym t) first
   passing-selected e (x ∷ l) (later i) t = by (f x) (passing-selected e l i t)
     where
