@@ -16,14 +16,14 @@ use nodes::words::put_zeros;
 use serialize::map::{Place, serialize_from_ordered_iter};
 
 // What a build answers: the archive's end, or a refusal.
-#[derive(Drop)]
+#[derive(Clone, Copy)]
 pub enum BuildAnswer {
     Built(usize),
     Refused(Refusal),
 }
 
 // The most entries of an archive, and the longest header in bytes.
-#[derive(Drop)]
+#[derive(Clone, Copy)]
 struct Most;
 
 impl Most {

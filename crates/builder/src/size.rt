@@ -12,7 +12,7 @@ use offsets::ser::writer::{Aligned, align};
 
 // The levels above the last one (rkyv's `entries_to_height`), the power of the number of children, of which one less is the entries there, the nodes
 // right over the last level, and the nodes above those.
-#[derive(Drop)]
+#[derive(Clone, Copy)]
 pub struct Levels {
     pub above: usize,
     pub power: usize,
@@ -125,7 +125,7 @@ fn start_of(header: usize, alignment: usize) -> usize
 
 // The number of entries, the levels above the last one, what the last one takes, where the archive begins behind the header and where it ends, and
 // whether the width holds all offsets.
-#[derive(Drop)]
+#[derive(Clone, Copy)]
 pub struct Plan {
     pub entries: usize,
     pub above: usize,

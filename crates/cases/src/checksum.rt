@@ -2,7 +2,7 @@
 ghost use Rattle.std.specs.Prelude.{◌≡◌, ◌<◌};
 ghost use Rattle.cases.specs.Checksum.{checksum};
 
-#[derive(Drop)]
+#[derive(Clone, Copy)]
 struct Digits;
 
 impl Digits {

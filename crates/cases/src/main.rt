@@ -16,6 +16,8 @@
 // 8  a key to unpack: a packing in one byte and the key     9  a value to read
 //
 // A layout is the bits of its width, 16, 32 or 64, and the entries a node; a packing is 0 for two's complement and 1 for plus 128.
+#![tactic(auto)]
+
 mod archives;
 mod builds;
 mod checksum;

@@ -1,4 +1,6 @@
 // What certification asks beyond the check, in one pass over the accepted nodes: whether one is hollow, and whether the keys strictly ascend.
+#![tactic(auto)]
+
 ghost use Rattle.std.specs.Prelude.{◌≡◌, ◌+◌, ◌<◌, ◌≤◌, length, get_or};
 ghost use Rattle.format.specs.Layout.{layout_of, server, nested, head_size};
 ghost use Rattle.format.specs.Node.{kind, slot};
@@ -14,7 +16,7 @@ use offsets::rel_ptr::is_invalid_at;
 
 // The keys passed: whether there was one, the last, and whether each was above the one before. The two flags are whole words, 1 or 0: of a struct
 // with bools the compiler copies the padding too, which stalls.
-#[derive(Drop)]
+#[derive(Clone, Copy)]
 struct KeyOrder {
     some: usize,
     last: u64,
@@ -22,13 +24,13 @@ struct KeyOrder {
 }
 
 // The order of the keys passed, and whether a hollow node is known: 1 or 0.
-#[derive(Drop)]
+#[derive(Clone, Copy)]
 struct Pass {
     order: KeyOrder,
     hollow: usize,
 }
 
-#[derive(Drop)]
+#[derive(Clone, Copy)]
 pub struct Survey {
     pub hollow: bool,
     pub ascends: bool,

@@ -1,4 +1,6 @@
 // Answers, bounds, packings and layouts as numbers, for programs in C and Rust.
+#![tactic(auto)]
+
 ghost use Rattle.std.specs.Prelude.{◌≡◌, ℕ, ◌<◌, ◌^◌, pos, neg_ℤ};
 ghost use Rattle.format.specs.Layout.{layout_of};
 ghost use Rattle.format.specs.Refusal.{gives, check_of, number};

@@ -1,4 +1,6 @@
 // The bounds of a range as numbers: what is open, included or excluded is decided here, and nowhere else.
+#![tactic(auto)]
+
 ghost use Rattle.std.specs.Prelude.{◌≡◌};
 ghost use Rattle.format.specs.Range.{ends_of};
 

@@ -1,4 +1,6 @@
 // Lists an archive of at most 65,536 bytes from standard input. The text is `printed` of crates/listing/specs/Listing.antt.
+#![tactic(auto)]
+
 use libc::{STDIN_FILENO, STDOUT_FILENO};
 
 fn main() {

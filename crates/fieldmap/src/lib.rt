@@ -2,6 +2,8 @@
 // refusal and leaves what was lent as it was. An archive is built, checked and read at the layout that the caller names: the width of its offsets and
 // counts, and the entries a node. Outside 3 to 15 of them every such call is refused by 24. It is checked and read under limits that the caller names:
 // its longest length, for refusal 1, and the depth of its nodes, for 5.
+#![tactic(auto)]
+
 ghost use Rattle.std.specs.Prelude.{◌≡◌, length};
 ghost use Rattle.format.specs.Layout.{layout_of, limits_of};
 ghost use Rattle.format.specs.Refusal.{check_of, number};

@@ -1,5 +1,7 @@
 // The text of an input, an archive with 32-bit pointers: a line that says whether it is certified, open or refused, and of an accepted archive each
 // entry of the walk, key and value on a line. More than 65,536 bytes are refused. The text is `printed` of specs/Listing.antt.
+#![tactic(auto)]
+
 ghost use Rattle.std.specs.Prelude.{◌≡◌, [], ◌∷◌, ◌++◌, ◌+◌, ◌*◌, ◌≤◌, length, take, drop};
 ghost use Rattle.text.specs.Decimal.{decimal};
 ghost use Rattle.listing.specs.Listing.{title, title_line, entry_line, first_lines, listing, printed};
@@ -19,7 +21,7 @@ const MOST_ENTRIES: usize = 4096;
 const LONGEST_TEXT: usize = 31 + 42 * MOST_ENTRIES;
 
 // What the first line says: certified or only accepted, with the recorded count, or refused, with the refusal's number.
-#[derive(Drop)]
+#[derive(Clone, Copy)]
 enum Title {
     Certified(u64),
     Open(u64),

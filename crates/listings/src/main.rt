@@ -1,5 +1,7 @@
 // Lists each file that an argument names, with the file's name on a line before its text. It lists by the same function as the program `fieldlist`, on
 // the inputs of data/: the longest that is listed, one byte more, none, open archives and each refusal.
+#![tactic(auto)]
+
 use libc::STDOUT_FILENO;
 
 fn list_file(index: usize) {

@@ -1,4 +1,6 @@
 // Lookups in one accepted archive, from its root: of one key in `map`, of many keys here.
+#![tactic(auto)]
+
 pub mod map;
 pub mod quick;
 

@@ -11,7 +11,7 @@ use fields::primitive::u64_at;
 use format::{Child, Found, Layout, Position};
 
 // The first slot whose key is not below the one sought: equal to it, or above it. Where all keys are below, the place past them.
-#[derive(Drop)]
+#[derive(Clone, Copy)]
 pub(crate) enum Seek {
     Equal(usize),
     Less(usize),

@@ -1,5 +1,7 @@
 // The quick way of the check at every layout, with the width, the entries a node and the bits of the offset -1 as numbers: a struct would pass
 // through memory at each node. As of `quick`, a reader can skip this crate.
+#![tactic(auto)]
+
 ghost use Rattle.std.specs.Prelude.{◌≡◌, true, ℕ, suc, ◌+◌, ◌≤◌, ◌<◌, ◌^◌, length};
 ghost use Rattle.format.specs.Layout.{layout_of, server, bytes, sign_bits, pointer, inner_size};
 ghost use Rattle.format.specs.Bytes.{le_at};

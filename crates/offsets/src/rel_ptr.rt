@@ -8,21 +8,21 @@ ghost use Rattle.offsets.specs.Answers.{distance_of, stored_of, target_of};
 use fields::primitive::uint_at;
 use format::{Layout, Position, Refusal, Width};
 
-#[derive(Drop)]
+#[derive(Clone, Copy)]
 pub enum Distance {
     Offset(i64),
     Refused(Refusal),
 }
 
 // An offset of 32 bits, as a field stores it.
-#[derive(Drop)]
+#[derive(Clone, Copy)]
 pub enum Stored {
     Offset(i32),
     Refused(Refusal),
 }
 
 // Where a pointer leads; below is before the archive's first byte.
-#[derive(Drop)]
+#[derive(Clone, Copy)]
 pub enum Target {
     At(Position),
     Below,

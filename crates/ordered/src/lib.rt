@@ -1,5 +1,7 @@
 // The quick way of certification at the common layout, in one pass: the check, the order of the keys and the hollow nodes. What passes it is certified,
 // and of the rest nothing is known, so that the check and `certification` decide. No promise of another crate needs it: a reader can skip this one.
+#![tactic(auto)]
+
 ghost use Rattle.std.specs.Prelude.{◌≡◌, true, false, ◌+◌, ◌*◌, ◌≤◌, ◌<◌, length};
 ghost use Rattle.format.specs.Layout.{layout32, Limits as GivenLimits, server, pointer, keys_from, head_size, leaf_size, inner_size};
 ghost use Rattle.format.specs.Refusal.{gives};
@@ -14,21 +16,21 @@ use format::{Common, Layout};
 const WRAP: usize = 0x1_0000_0000;
 
 // A child's entries, where the range starts after it, and the last key up to its end.
-#[derive(Drop)]
+#[derive(Clone, Copy)]
 pub enum Passed {
     Child(usize, usize, u64),
     No,
 }
 
 // The entries of a node and of all below it, 0 where nothing is known, and the last key.
-#[derive(Drop)]
+#[derive(Clone, Copy)]
 pub struct Keys {
     pub entries: usize,
     pub last: u64,
 }
 
 // The last key after a slot.
-#[derive(Drop)]
+#[derive(Clone, Copy)]
 pub enum Next {
     Key(u64),
     No,

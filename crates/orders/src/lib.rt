@@ -1,5 +1,7 @@
 // The quick way of certification at every layout, in one pass, with numbers as in `numbers`; the common layout goes on with `ordered`'s constants.
 // As of `ordered`, a reader can skip this crate.
+#![tactic(auto)]
+
 ghost use Rattle.std.specs.Prelude.{◌≡◌, true, ◌+◌, ◌*◌, ◌≤◌, ◌<◌, length};
 ghost use Rattle.format.specs.Layout.{layout_of, Limits as GivenLimits, limits_of, keys_from, bytes, leaf_size, inner_size};
 ghost use Rattle.format.specs.Refusal.{gives};

@@ -10,13 +10,13 @@ use crate::degrees::bits_of;
 use crate::key::{Count, key_of};
 use format::{Bound, Packing, Refusal};
 
-#[derive(Drop)]
+#[derive(Clone, Copy)]
 pub struct ColumnBounds {
     pub lower: Bound,
     pub upper: Bound,
 }
 
-#[derive(Drop)]
+#[derive(Clone, Copy)]
 pub enum Columns {
     Bounds(ColumnBounds),
     Refused(Refusal),

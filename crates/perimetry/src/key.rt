@@ -8,7 +8,7 @@ use crate::degrees::{bits_of, degrees_of};
 use format::{Packing, Refusal};
 
 // The eye is 0 for the right one and 1 for the left; x and y are in degrees.
-#[derive(Drop)]
+#[derive(Clone, Copy)]
 pub struct KeyFields {
     pub examination: u32,
     pub eye: u8,
@@ -17,14 +17,14 @@ pub struct KeyFields {
     pub presentation: u32,
 }
 
-#[derive(Drop)]
+#[derive(Clone, Copy)]
 pub enum Packed {
     Key(u64),
     Refused(Refusal),
 }
 
 // The bit of the key at which each field starts; the presentation starts at 0.
-#[derive(Drop)]
+#[derive(Clone, Copy)]
 struct LowestBit;
 
 impl LowestBit {
@@ -38,7 +38,7 @@ impl LowestBit {
 }
 
 // How many values each of these fields has.
-#[derive(Drop)]
+#[derive(Clone, Copy)]
 pub(crate) struct Count;
 
 impl Count {

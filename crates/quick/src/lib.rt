@@ -1,5 +1,7 @@
 // The quick way of the check at the common layout, with constants. It answers a number and no refusal: what passes is accepted, and where it answers 0
 // nothing is known, so that the check with refusals decides. No promise of another crate needs it: a reader can skip this one.
+#![tactic(auto)]
+
 ghost use Rattle.std.specs.Prelude.{◌≡◌, ℕ, ◌+◌, ◌%◌, ◌≤◌, ◌<◌, length};
 ghost use Rattle.format.specs.Layout.{layout32, server, pointer, inner_size, node_align};
 ghost use Rattle.quick.specs.Quick.{Passes, Below};
@@ -8,7 +10,7 @@ use fields::primitive::u32_at;
 use format::{Common, Layout};
 
 // A child's entries, and where the range starts after it.
-#[derive(Drop)]
+#[derive(Clone, Copy)]
 pub enum Passed {
     Entries(usize, usize),
     No,

@@ -12,7 +12,7 @@ use ends::ends_of;
 use format::{Bound, Ends, Layout, Position};
 
 // What a range answers: the number written and the number matching.
-#[derive(Drop)]
+#[derive(Clone, Copy)]
 pub struct Ranged {
     pub written: usize,
     pub matching: usize,

@@ -1,3 +1,5 @@
 // The range over an archive that certification has accepted.
+#![tactic(auto)]
+
 pub mod iter;
 pub mod node;

@@ -1,4 +1,6 @@
 // The readers of a whole archive, at a layout and under limits: each checks or certifies it first.
+#![tactic(auto)]
+
 ghost use Rattle.std.specs.Prelude.{◌≡◌, ◌-◌, ◌≤◌, length};
 ghost use Rattle.format.specs.Layout.{layout_of, limits_of, record_size};
 ghost use Rattle.format.specs.Refusal.{check_of};
@@ -15,7 +17,7 @@ use format::{Bound, CheckAnswer, Entry, Found, Layout, Limits, Position, Refusal
 use offsets::rel_ptr::ones;
 use orders::quick_certify;
 
-#[derive(Drop)]
+#[derive(Clone, Copy)]
 pub enum LookupAnswer {
     Entry(Entry),
     Nothing,
@@ -23,21 +25,21 @@ pub enum LookupAnswer {
 }
 
 // The number written and the recorded count.
-#[derive(Drop)]
+#[derive(Clone, Copy)]
 pub enum WalkAnswer {
     Walked(usize, usize),
     Refused(Refusal),
 }
 
 // The number written and the number matching.
-#[derive(Drop)]
+#[derive(Clone, Copy)]
 pub enum RangeAnswer {
     Matched(usize, usize),
     Refused(Refusal),
 }
 
 // The number of keys found.
-#[derive(Drop)]
+#[derive(Clone, Copy)]
 pub enum ManyAnswer {
     Found(usize),
     Refused(Refusal),

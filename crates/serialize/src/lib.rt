@@ -1,2 +1,4 @@
 // The nodes of all entries.
+#![tactic(auto)]
+
 pub mod map;

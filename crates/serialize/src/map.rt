@@ -11,7 +11,7 @@ use nodes::inline_vec::ChildPos;
 use nodes::node::{close_inner, close_leaf};
 
 // The last closed child, the next entry, the entries that the last level still takes, and the next position.
-#[derive(Drop)]
+#[derive(Clone, Copy)]
 pub struct Place {
     pub child: ChildPos,
     pub next: usize,
@@ -20,14 +20,14 @@ pub struct Place {
 }
 
 // An inner node that takes entries: their places in the given lists, and the lesser child before each as in `ChildPos`.
-#[derive(Drop)]
+#[derive(Clone, Copy)]
 pub struct OpenInner {
     pub places: [u32; Layout::MOST],
     pub lessers: [u32; Layout::MOST],
 }
 
 // An inner node that has taken its entries, and where the builder is then: the greater child is the last closed one.
-#[derive(Drop)]
+#[derive(Clone, Copy)]
 pub struct FullInner {
     pub node: OpenInner,
     pub here: Place,

@@ -6,13 +6,13 @@ ghost use Rattle.subtrees.specs.Subtree.{placed, opened, pushed, popped};
 use format::{Position, Refusal};
 
 // From start up to, not including, end.
-#[derive(Drop)]
+#[derive(Clone, Copy)]
 pub struct SubtreeRange {
     pub start: Position,
     pub end: Position,
 }
 
-#[derive(Drop)]
+#[derive(Clone, Copy)]
 pub enum PtrAnswer {
     Inside,
     Refused(Refusal),

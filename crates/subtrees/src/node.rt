@@ -16,7 +16,7 @@ use format::{CheckAnswer, Layout, Position, Refusal};
 use offsets::rel_ptr::{Target, is_invalid_at, rel_ptr_at};
 
 // A node's entries and the position that it ends at, or a refusal.
-#[derive(Drop)]
+#[derive(Clone, Copy)]
 pub enum NodeAnswer {
     Entries(usize, Position),
     Refused(Refusal),
@@ -69,7 +69,7 @@ fn check_leaf_node(
 }
 
 // What a field leads to, before an inner node's children are checked: a leaf's entries and end, or an inner node's position.
-#[derive(Drop)]
+#[derive(Clone, Copy)]
 pub enum Entered {
     Leaf(usize, Position),
     Inner(Position),

@@ -1,4 +1,6 @@
 // Text that is put together in a lent buffer: bytes and decimal numbers, one behind the other.
+#![tactic(auto)]
+
 ghost use Rattle.std.specs.Prelude.{◌≡◌, ◌++◌, ◌+◌, ◌≤◌, length, take, drop};
 ghost use Rattle.text.specs.Decimal.{decimal};
 

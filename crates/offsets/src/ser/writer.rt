@@ -6,7 +6,7 @@ ghost use Rattle.offsets.specs.Answers.{aligned_of};
 use format::Refusal;
 
 // The next position on an alignment, and the number of zeros before it.
-#[derive(Drop)]
+#[derive(Clone, Copy)]
 pub enum Aligned {
     At { next: u64, zeros: u64 },
     Refused(Refusal),
