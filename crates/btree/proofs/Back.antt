@@ -14,9 +14,9 @@ use Rattle.format.specs.Signed.{of_twos}
 use Rattle.format.specs.RelPtr.{at, below, position, target, absent}
 use Rattle.format.specs.Node.{child}
 use Rattle.format.specs.Readable.{child_at, Down, InnerNode}
-use Rattle.format.specs.Laws.Numbers.Signed.{of_twos-low, of_twos-high}
-use Rattle.format.specs.Laws.Numbers.RelPtr.{leads-on, leads-back, leads-below}
-use Rattle.format.specs.Laws.Read.Children.{child-absent, child-there}
+use Rattle.format.proofs.Laws.Numbers.Signed.{of_twos-low, of_twos-high}
+use Rattle.format.proofs.Laws.Numbers.RelPtr.{leads-on, leads-back, leads-below}
+use Rattle.format.proofs.Laws.Read.Children.{child-absent, child-there}
 
 below≢at : (q : ℕ) → below ≡ at q → ⊥
 below≢at q e = let z : ◌≡◌ {A = ℕ} 0 1 = cc in omega arith

@@ -9,7 +9,7 @@ use Rattle.format.specs.declared.Child.TheVariants.{At, Absent}
 use Rattle.format.specs.Layout.{Layout}
 use Rattle.format.specs.Node.{child}
 use Rattle.format.specs.Readable.{child_at}
-use Rattle.format.specs.Laws.Read.Children.{on_child, on-at, on-absent}
+use Rattle.format.proofs.Laws.Read.Children.{on_child, on-at, on-absent}
 
 -- The node at q gives `give q`, which `add` adds to a state; `none` is nothing to add.
 module _ (L : Layout) (s : List ℕ) {A S : Type 0} (add : A → S → S) (none : A) (stays : (o : S) → add none o ≡ o) (give : ℕ → A) where

@@ -10,11 +10,11 @@ use Rattle.format.specs.Align.{zeros_to}
 use Rattle.format.specs.Tree.{Branch, length_branch, child_of, write_branch, KeyValue}
 use Rattle.format.specs.Build.{height, last_level, fill, tree_of, record_bytes, behind, pairs}
 use Rattle.format.specs.Weight.{upper}
-use Rattle.format.specs.Laws.Numbers.Align.{zeros-lt}
-use Rattle.format.specs.Laws.Build.Given.{length_pairs}
-use Rattle.format.specs.Laws.Build.Height.{fitting}
-use Rattle.format.specs.Laws.Build.Weight.{tree-weighs}
-use Rattle.format.specs.Laws.Build.Longest.{nodes-small}
+use Rattle.format.proofs.Laws.Numbers.Align.{zeros-lt}
+use Rattle.format.proofs.Laws.Build.Given.{length_pairs}
+use Rattle.format.proofs.Laws.Build.Height.{fitting}
+use Rattle.format.proofs.Laws.Build.Weight.{tree-weighs}
+use Rattle.format.proofs.Laws.Build.Longest.{nodes-small}
 use Rattle.nodes.specs.Nodes.{child_at}
 use Rattle.serialize.specs.declared.map.Place.{Place}
 use Rattle.serialize.specs.Wrote.{from, Given, Ready, WroteTree}

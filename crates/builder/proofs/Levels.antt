@@ -7,9 +7,9 @@ use native.Mathlib.Nat.{mul-le-mul_left, mul-le-mul_right, mul-le-mul, suc_inj}
 use Rattle.format.specs.Layout.{Layout}
 use Rattle.format.specs.Build.{height, last_level}
 use Rattle.format.specs.Weight.{upper, room, inners_over}
-use Rattle.format.specs.Laws.Build.Filling.{full}
-use Rattle.format.specs.Laws.Build.Height.{fitting}
-use Rattle.format.specs.Laws.Build.Sizes.{upper-inners}
+use Rattle.format.proofs.Laws.Build.Filling.{full}
+use Rattle.format.proofs.Laws.Build.Height.{fitting}
+use Rattle.format.proofs.Laws.Build.Sizes.{upper-inners}
 use Rattle.builder.specs.declared.size.Levels.{Levels}
 use Rattle.builder.specs.Size.{Named, Leveled}
 

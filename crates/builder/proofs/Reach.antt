@@ -6,10 +6,10 @@ use native.Mathlib.Nat.{mul-le-mul, mul-le-mul_right, mul-div_cancel_left}
 use Rattle.format.specs.Layout.{Layout, head_size, leaf_size, inner_size}
 use Rattle.format.specs.Build.{last_level}
 use Rattle.format.specs.Weight.{upper, weight, first_own, reach, inners_over, up, size_by}
-use Rattle.format.specs.Laws.Build.Filling.{full}
-use Rattle.format.specs.Laws.Build.Near.{inner_room}
-use Rattle.format.specs.Laws.Build.Sizes.{up-most, upper-inners, weight-size}
-use Rattle.format.specs.Laws.Build.Farthest.{by-weight}
+use Rattle.format.proofs.Laws.Build.Filling.{full}
+use Rattle.format.proofs.Laws.Build.Near.{inner_room}
+use Rattle.format.proofs.Laws.Build.Sizes.{up-most, upper-inners, weight-size}
+use Rattle.format.proofs.Laws.Build.Farthest.{by-weight}
 use Rattle.builder.specs.declared.size.Levels.{Levels}
 use Rattle.builder.specs.Size.{Named, nodes_of, reach_of, Leveled}
 use Rattle.builder.proofs.Levels.{Fits, fits, over-is}

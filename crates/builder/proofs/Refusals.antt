@@ -13,10 +13,10 @@ use Rattle.format.specs.Refusal.{Answer, gives, refuses, provided}
 use Rattle.format.specs.Offsets.{archive_emplaces}
 use Rattle.format.specs.Tree.{KeyValue}
 use Rattle.format.specs.Build.{tree_of, start, behind, pairs, rises, build, build_length, out_by, out_after}
-use Rattle.format.specs.Laws.Build.Given.{length_pairs}
-use Rattle.format.specs.Laws.Numbers.Widths.{range-in}
-use Rattle.format.specs.Laws.Build.Taken.{passes, fails}
-use Rattle.format.specs.Laws.Build.Certifies.{emplaces-by}
+use Rattle.format.proofs.Laws.Build.Given.{length_pairs}
+use Rattle.format.proofs.Laws.Numbers.Widths.{range-in}
+use Rattle.format.proofs.Laws.Build.Taken.{passes, fails}
+use Rattle.format.proofs.Laws.Build.Certifies.{emplaces-by}
 use Rattle.builder.specs.declared.size.Plan.{Plan}
 use Rattle.builder.specs.Size.{Named, fits_width, Planned}
 use Rattle.builder.proofs.Whole.{end_is}

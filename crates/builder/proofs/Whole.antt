@@ -15,10 +15,10 @@ use Rattle.format.specs.Tree.{offset_bytes, Branch, none_b, some_b, length_branc
 use Rattle.format.specs.Weight.{weight, reach}
 use Rattle.format.specs.Build.{log_from, height, last_level, tree_of, first_align, record_bytes, behind}
 use Rattle.format.specs.TreeShape.{There}
-use Rattle.format.specs.Laws.Numbers.Align.{alignment-pos, step_given, zeros-lt}
-use Rattle.format.specs.Laws.Build.NodeBytes.{length-offset, length-write_branch}
-use Rattle.format.specs.Laws.Build.Weight.{tree-weighs}
-use Rattle.format.specs.Laws.Build.Built.{behind-length, tree-there}
+use Rattle.format.proofs.Laws.Numbers.Align.{alignment-pos, step_given, zeros-lt}
+use Rattle.format.proofs.Laws.Build.NodeBytes.{length-offset, length-write_branch}
+use Rattle.format.proofs.Laws.Build.Weight.{tree-weighs}
+use Rattle.format.proofs.Laws.Build.Built.{behind-length, tree-there}
 use Rattle.nodes.proofs.Runs.{put_then}
 use Rattle.builder.specs.declared.size.Levels.{Levels}
 use Rattle.builder.specs.Size.{Named, first_align_of, nodes_of, end_of, reach_of, fits_width, Leveled, Planned}

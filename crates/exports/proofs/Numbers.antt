@@ -18,11 +18,11 @@ use Rattle.format.specs.Entries.{list}
 use Rattle.format.specs.Range.{matches, range}
 use Rattle.format.specs.Written.{written}
 use Rattle.format.specs.Calls.{Walk, Matched, walk_call, range_call, column_call}
-use Rattle.format.specs.Laws.Check.Archive.{list_length}
-use Rattle.format.specs.Laws.Check.Bounds.{holds-bytes}
-use Rattle.format.specs.Laws.Range.List.{select-few}
-use Rattle.format.specs.Laws.Calls.Accepted.{is-archive, is-recorded, walk-refuses, walk-accepted}
-use Rattle.format.specs.Laws.Calls.Certified.{certified-accepts, range-refuses, range-certified, column-ranges, column-uncertified, column-refused}
+use Rattle.format.proofs.Laws.Check.Archive.{list_length}
+use Rattle.format.proofs.Laws.Check.Bounds.{holds-bytes}
+use Rattle.format.proofs.Laws.Range.List.{select-few}
+use Rattle.format.proofs.Laws.Calls.Accepted.{is-archive, is-recorded, walk-refuses, walk-accepted}
+use Rattle.format.proofs.Laws.Calls.Certified.{certified-accepts, range-refuses, range-certified, column-ranges, column-uncertified, column-refused}
 use Rattle.fieldmap.specs.Refusals.{given}
 
 module _ (L : Layout) {M : Limits} (w : Within M server) (s : List ℕ) where

@@ -30,23 +30,23 @@ use Rattle.format.specs.Calls.{lookup_call, bytes_call, place_call, walk_call, w
 use Rattle.format.specs.Calls.{column_call, column_keys, column_values}
 use Rattle.format.specs.Offsets.{archive_emplaces}
 use Rattle.format.specs.Built.{Taken, LayoutTakes}
-use Rattle.format.specs.Laws.Certify.Find.{find-found, find-nothing, find-one}
+use Rattle.format.proofs.Laws.Certify.Find.{find-found, find-nothing, find-one}
 use Rattle.fieldmap.specs.Refusals.{lookup-refused, walk_refused, range-refused, column-refused-by}
 use Rattle.fieldmap.specs.Refusals.{build-by, length-by, signed_by, stored-by, absent_by, align-by, pack-by}
-use Rattle.format.specs.Laws.Check.Refusals.{check-by, certify-by}
-use Rattle.format.specs.Laws.Check.Archive.{field-lands, field_apart, field-once, list_length}
-use Rattle.format.specs.Laws.Certify.Certified.{lookup-certified}
-use Rattle.format.specs.Laws.Calls.Accepted.{certify-refuses, lookup-refuses, bytes-refuses, place-refuses, walk-refuses, walk-keys-refuses}
-use Rattle.format.specs.Laws.Calls.Accepted.{walk-values-refuses, is-recorded, is-archive}
-use Rattle.format.specs.Laws.Calls.Accepted.{lookup-accepted, bytes-accepted, place-accepted, walk-accepted, walk-keys-accepted, walk-values-accepted}
-use Rattle.format.specs.Laws.Calls.Certified.{range-refuses, range-keys-refuses, range-values-refuses, column-uncertified}
-use Rattle.format.specs.Laws.Calls.Certified.{certified-exactly, is-certified, certified-accepts, range-certified, range-keys-certified, range-values-certified}
-use Rattle.format.specs.Laws.Range.Iter.{range-yields}
-use Rattle.format.specs.Laws.Numbers.Key.{pack-unpack}
-use Rattle.format.specs.Laws.Build.Taken.{both, taken, layout-takes, taken-gives, build-output, build-archive}
-use Rattle.format.specs.Laws.Build.Certifies.{build-certifies}
-use Rattle.format.specs.Laws.Build.Lengths.{length-given}
-use Rattle.format.specs.Laws.Build.Streaming.{never-panics, streamed-archive}
+use Rattle.format.proofs.Laws.Check.Refusals.{check-by, certify-by}
+use Rattle.format.proofs.Laws.Check.Archive.{field-lands, field_apart, field-once, list_length}
+use Rattle.format.proofs.Laws.Certify.Certified.{lookup-certified}
+use Rattle.format.proofs.Laws.Calls.Accepted.{certify-refuses, lookup-refuses, bytes-refuses, place-refuses, walk-refuses, walk-keys-refuses}
+use Rattle.format.proofs.Laws.Calls.Accepted.{walk-values-refuses, is-recorded, is-archive}
+use Rattle.format.proofs.Laws.Calls.Accepted.{lookup-accepted, bytes-accepted, place-accepted, walk-accepted, walk-keys-accepted, walk-values-accepted}
+use Rattle.format.proofs.Laws.Calls.Certified.{range-refuses, range-keys-refuses, range-values-refuses, column-uncertified}
+use Rattle.format.proofs.Laws.Calls.Certified.{certified-exactly, is-certified, certified-accepts, range-certified, range-keys-certified, range-values-certified}
+use Rattle.format.proofs.Laws.Range.Iter.{range-yields}
+use Rattle.format.proofs.Laws.Numbers.Key.{pack-unpack}
+use Rattle.format.proofs.Laws.Build.Taken.{both, taken, layout-takes, taken-gives, build-output, build-archive}
+use Rattle.format.proofs.Laws.Build.Certifies.{build-certifies}
+use Rattle.format.proofs.Laws.Build.Lengths.{length-given}
+use Rattle.format.proofs.Laws.Build.Streaming.{never-panics, streamed-archive}
 
 -- ---- demand 1: "gets an answer or a listed refusal .. and a refusal changes no lent buffer"
 

@@ -18,15 +18,15 @@ use Rattle.format.specs.Certify.{certify}
 use Rattle.format.specs.Build.{tree_of, start, behind, pairs, rises, build, build_length}
 use Rattle.format.specs.Offsets.{archive_emplaces}
 use Rattle.format.specs.Calls.{lookup_call, walk_call, range_call, column_call, column_keys, column_values}
-use Rattle.format.specs.Laws.Numbers.RelPtr.{absent-last, stored-15, offset-behind, fits_refused}
-use Rattle.format.specs.Laws.Numbers.Widths.{range-in}
-use Rattle.format.specs.Laws.Build.BytesAt.{absent-fits}
-use Rattle.format.specs.Laws.Build.Taken.{passes, fails, by-16}
-use Rattle.format.specs.Laws.Build.Certifies.{wide-gives}
-use Rattle.format.specs.Laws.Build.Lengths.{wide-length}
-use Rattle.format.specs.Laws.Calls.Accepted.{lookup-refuses, lookup-accepted, walk-refuses, walk-accepted}
-use Rattle.format.specs.Laws.Calls.Certified.{range-refuses, range-keys-refuses, range-values-refuses, range-certified, column-ranges, column-values-refused}
-use Rattle.format.specs.Laws.Calls.Certified.{column-keys-ranges, column-values-ranges, column-uncertified, column-refused, column-keys-refused}
+use Rattle.format.proofs.Laws.Numbers.RelPtr.{absent-last, stored-15, offset-behind, fits_refused}
+use Rattle.format.proofs.Laws.Numbers.Widths.{range-in}
+use Rattle.format.proofs.Laws.Build.BytesAt.{absent-fits}
+use Rattle.format.proofs.Laws.Build.Taken.{passes, fails, by-16}
+use Rattle.format.proofs.Laws.Build.Certifies.{wide-gives}
+use Rattle.format.proofs.Laws.Build.Lengths.{wide-length}
+use Rattle.format.proofs.Laws.Calls.Accepted.{lookup-refuses, lookup-accepted, walk-refuses, walk-accepted}
+use Rattle.format.proofs.Laws.Calls.Certified.{range-refuses, range-keys-refuses, range-values-refuses, range-certified, column-ranges, column-values-refused}
+use Rattle.format.proofs.Laws.Calls.Certified.{column-keys-ranges, column-values-ranges, column-uncertified, column-refused, column-keys-refused}
 
 -- ---- answers
 

@@ -11,7 +11,7 @@ use Rattle.format.specs.Check.{root, recorded}
 use Rattle.format.specs.Entries.{list}
 use Rattle.format.specs.Accepted.{Archive}
 use Rattle.format.specs.NodeRelation.{ChildOk, gone, there, ChildrenOk, last, more, NodeOk, leaf_ok, inner_ok, Holds}
-use Rattle.format.specs.Laws.Check.Archive.{list_length}
+use Rattle.format.proofs.Laws.Check.Archive.{list_length}
 
 module _ (s : List ℕ) where
   -- The n entries of a node at p and of those below it fit between lo and its end, and the end lies in the range.

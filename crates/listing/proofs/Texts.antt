@@ -11,7 +11,7 @@ use Rattle.format.specs.Layout.{layout32, server}
 use Rattle.format.specs.Refusal.{gives, refuses}
 use Rattle.format.specs.Check.{counted, check_archive}
 use Rattle.format.specs.Certify.{certify}
-use Rattle.format.specs.Laws.Calls.Accepted.{gives-inv, refuses-inv, certify-refuses}
+use Rattle.format.proofs.Laws.Calls.Accepted.{gives-inv, refuses-inv, certify-refuses}
 use Rattle.text.specs.Decimal.{decimal}
 use Rattle.listing.specs.declared.Title.TheVariants.{Certified, Open, Refused}
 use Rattle.listing.specs.Listing.{title, title_line, entry_line, first_lines, listing, printed}

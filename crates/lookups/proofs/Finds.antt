@@ -19,8 +19,8 @@ use Rattle.format.specs.Bytes.{le_at}
 use Rattle.format.specs.Node.{leaf, inner, child, leaf_count, slot}
 use Rattle.format.specs.Lookup.{Order, less, equal, greater, order, lookup_slots, lookup_children, lookup_body, lookup_at, bytes_of, place_of}
 use Rattle.format.specs.Readable.{LeadsTo, child_at, Node, leaf_g, inner_g, Good, LeafNode, InnerNode}
-use Rattle.format.specs.Laws.Read.Children.{on_child, on-at, on-absent, look-child, child-leads}
-use Rattle.format.specs.Laws.Read.Node.{kind-leaf, as-leaf, as-inner, lookup-node}
+use Rattle.format.proofs.Laws.Read.Children.{on_child, on-at, on-absent, look-child, child-leads}
+use Rattle.format.proofs.Laws.Read.Node.{kind-leaf, as-leaf, as-inner, lookup-node}
 use Rattle.lookups.specs.Seek.{order_at, seek_at}
 use Rattle.lookups.specs.declared.map.Seek.{Seek}
 use Rattle.lookups.specs.declared.map.Seek.TheVariants.{Equal, Less}

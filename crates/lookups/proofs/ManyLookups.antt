@@ -13,7 +13,7 @@ use Rattle.format.specs.Refusal.{gives, refuses}
 use Rattle.format.specs.RelPtr.{at, target}
 use Rattle.format.specs.Check.{Checked, accepted, refused, counted, check_archive}
 use Rattle.format.specs.Lookup.{lookup, lookup_at}
-use Rattle.format.specs.Laws.Calls.Accepted.{gives-inv, refuses-inv, lookup-accepted, lookup-none, lookup-root}
+use Rattle.format.proofs.Laws.Calls.Accepted.{gives-inv, refuses-inv, lookup-accepted, lookup-none, lookup-root}
 use Rattle.lookups.specs.Many.{Many, many, store, first_many, sought, all_many, many_call, many_values}
 
 -- ---- one key

@@ -10,9 +10,9 @@ use Rattle.format.specs.Layout.{Width, two, four, eight, Layout, bytes, pointer,
 use Rattle.format.specs.Bytes.{le_bytes, put}
 use Rattle.format.specs.Tree.{KeyValue, Slot, column, head, offset_bytes, lesser_bytes, leaf_bytes, inner_bytes}
 use Rattle.format.specs.Build.{pairs}
-use Rattle.format.specs.Laws.Build.Given.{length_pairs}
-use Rattle.format.specs.Laws.Build.NodeBytes.{length-column, length-head, length-offset}
-use Rattle.format.specs.Laws.Numbers.Bytes.{length-le_bytes, le_bytes-add}
+use Rattle.format.proofs.Laws.Build.Given.{length_pairs}
+use Rattle.format.proofs.Laws.Build.NodeBytes.{length-column, length-head, length-offset}
+use Rattle.format.proofs.Laws.Numbers.Bytes.{length-le_bytes, le_bytes-add}
 use Rattle.nodes.specs.Nodes.{child_at, words, picked, lessers_bytes, slots_in}
 use Rattle.nodes.proofs.Runs.{put_then}
 

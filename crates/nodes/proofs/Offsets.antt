@@ -16,9 +16,9 @@ use Rattle.format.specs.Bytes.{le_bytes, put}
 use Rattle.format.specs.Signed.{twos}
 use Rattle.format.specs.RelPtr.{fit_signed, signed_offset}
 use Rattle.format.specs.Tree.{emplaced, offset_bytes}
-use Rattle.format.specs.Laws.Build.BytesAt.{absent-fits}
-use Rattle.format.specs.Laws.Numbers.Bytes.{le_bytes-mod, length-le_bytes}
-use Rattle.format.specs.Laws.Numbers.RelPtr.{offset-ahead, offset-behind, fits_gives, fits_refused, stored-given, stored-15}
+use Rattle.format.proofs.Laws.Build.BytesAt.{absent-fits}
+use Rattle.format.proofs.Laws.Numbers.Bytes.{le_bytes-mod, length-le_bytes}
+use Rattle.format.proofs.Laws.Numbers.RelPtr.{offset-ahead, offset-behind, fits_gives, fits_refused, stored-given, stored-15}
 use Rattle.nodes.specs.Nodes.{child_at, lessers_bytes}
 use Rattle.nodes.proofs.Runs.{put_then}
 

@@ -7,8 +7,8 @@ use native.Mathlib.Omega.{arith}
 use lib.ListN.{length, get_or, set, replicate, take, drop, length-drop, length-replicate}
 use lib.Seq.{drop-cons, set_comm}
 use Rattle.format.specs.Bytes.{le_bytes, put}
-use Rattle.format.specs.Laws.Numbers.Bytes.{put-append, length-le_bytes}
-use Rattle.format.specs.Laws.Build.NodeBytes.{length-column}
+use Rattle.format.proofs.Laws.Numbers.Bytes.{put-append, length-le_bytes}
+use Rattle.format.proofs.Laws.Build.NodeBytes.{length-column}
 use Rattle.nodes.specs.Nodes.{words, picked, Within}
 
 -- A zero is written: what is left to write is what was left.

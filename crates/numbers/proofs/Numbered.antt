@@ -11,7 +11,7 @@ use Rattle.format.specs.Bytes.{le_at}
 use Rattle.format.specs.RelPtr.{target, absent}
 use Rattle.format.specs.Node.{child}
 use Rattle.format.specs.Readable.{LeadsTo}
-use Rattle.format.specs.Laws.Numbers.Widths.{bytes-some, bytes-few, area, reach, field_is}
+use Rattle.format.proofs.Laws.Numbers.Widths.{bytes-some, bytes-few, area, reach, field_is}
 use Rattle.offsets.proofs.Offsets.{leads-behind}
 use Rattle.quick.specs.Quick.{Below}
 use Rattle.quick.proofs.Passing.{SoFar, absent-passed, all-passed}

@@ -11,8 +11,8 @@ use lib.Pow.{pow_pos}
 use Rattle.format.specs.Refusal.{refuses}
 use Rattle.format.specs.Signed.{of_twos}
 use Rattle.format.specs.RelPtr.{fit_signed, at, below, position}
-use Rattle.format.specs.Laws.Numbers.Signed.{of_twos-low, of_twos-high}
-use Rattle.format.specs.Laws.Numbers.RelPtr.{leads-on, leads-back, leads-below, fits_refused}
+use Rattle.format.proofs.Laws.Numbers.Signed.{of_twos-low, of_twos-high}
+use Rattle.format.proofs.Laws.Numbers.RelPtr.{leads-on, leads-back, leads-below, fits_refused}
 
 -- The two tests: below the least number of h + 1 bits, and above the greatest.
 pub below-refused : (h n : ℕ) (z : ℤ) → lt_z z (negsuc (2 ^ h - 1)) ≡ true → fit_signed h n z ≡ refuses n

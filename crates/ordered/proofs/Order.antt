@@ -20,7 +20,7 @@ use Rattle.format.specs.Entries.{slots, list_child, list_children, list_body, li
 use Rattle.format.specs.Certify.{ascends_from, ascends, hollow, any_child, any_children, any_body, hollow_at, hollow_of, certify}
 use Rattle.format.specs.Readable.{LeadsTo}
 use Rattle.format.specs.NodeRelation.{ChildOk, Holds}
-use Rattle.format.specs.Laws.Read.Node.{kind-leaf}
+use Rattle.format.proofs.Laws.Read.Node.{kind-leaf}
 use Rattle.quick.specs.Quick.{Root}
 use Rattle.quick.proofs.Passing.{kind-inner, absent-child, leaf-child, inner-child, SoFar, none_passed, one-passed, all-passed, root-passes}
 use Rattle.ordered.specs.Order.{ascends_after, Leads, key_in, Rise, LeafKeys, KeysPass, ChildKeys, KeysBelow}

@@ -11,7 +11,7 @@ use mir.Val.{Fits, SFits, to_z, of_z}
 use mir.Facts.{to_z_pos, to_z-of_z}
 use Rattle.format.specs.declared.Packing.TheVariants.{Plus128}
 use Rattle.format.specs.Key.{bits_of, degrees_of}
-use Rattle.format.specs.Laws.Numbers.Degrees.{plus-stored, bits-lt, degrees-fit}
+use Rattle.format.proofs.Laws.Numbers.Degrees.{plus-stored, bits-lt, degrees-fit}
 use Rattle.fields.proofs.Widened.{widened}
 
 -- ---- plus 128

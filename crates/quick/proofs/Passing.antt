@@ -13,11 +13,11 @@ use Rattle.format.specs.RelPtr.{at, target, absent}
 use Rattle.format.specs.Node.{inner, kind, child, leaf_count}
 use Rattle.format.specs.Readable.{LeadsTo}
 use Rattle.format.specs.NodeRelation.{ChildOk, gone, there, ChildrenOk, last, more, leaf_ok, inner_ok, Holds}
-use Rattle.format.specs.Laws.Check.Complete.{complete}
-use Rattle.format.specs.Laws.Read.Node.{kind-leaf}
+use Rattle.format.proofs.Laws.Check.Complete.{complete}
+use Rattle.format.proofs.Laws.Read.Node.{kind-leaf}
 use Rattle.offsets.proofs.Offsets.{leads-behind}
 use Rattle.quick.specs.Quick.{Below, Root}
-use Rattle.format.specs.Laws.Check.Bounds.{child-bytes, holds-bytes}
+use Rattle.format.proofs.Laws.Check.Bounds.{child-bytes, holds-bytes}
 
 -- An offset of 4 bytes, x, that leads back from f to p.
 pub leads32 : (s : List ℕ) (f x : ℕ) {p : ℕ} → x ≡ le_at 4 s f → x < 0x1_0000_0000 → f < 0x8000_0000 → p + 0x1_0000_0000 ≡ f + x → LeadsTo layout32 s f p

@@ -12,8 +12,8 @@ use Rattle.format.specs.Layout.{Layout, Limits, nested}
 use Rattle.format.specs.Node.{child, leaf_count}
 use Rattle.format.specs.Entries.{list_child, list_children, list_body, list_at}
 use Rattle.format.specs.Readable.{LeadsTo, child_at, leaf_g, inner_g, Good, Node}
-use Rattle.format.specs.Laws.Read.Children.{on_child, child-leads, list-child}
-use Rattle.format.specs.Laws.Check.Count.{slots_length}
+use Rattle.format.proofs.Laws.Read.Children.{on_child, child-leads, list-child}
+use Rattle.format.proofs.Laws.Check.Count.{slots_length}
 
 module _ (L : Layout) (s : List ℕ) where
   module _ (give : ℕ → List Entry) (b : ℕ) (some : 0 < b) where

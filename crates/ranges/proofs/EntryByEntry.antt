@@ -13,9 +13,9 @@ use Rattle.format.specs.declared.Ends.TheVariants.{Keys}
 use Rattle.format.specs.Certify.{Ascending}
 use Rattle.format.specs.Range.{held, select}
 use Rattle.format.specs.Written.{written, Out, out, put, runs, fill, walked}
-use Rattle.format.specs.Laws.Certify.Ascend.{Split, split}
-use Rattle.format.specs.Laws.Range.List.{select-under, select-above}
-use Rattle.format.specs.Laws.Read.Written.{runs_none, runs-cons, runs_append, put-room, fill-full, all-filled}
+use Rattle.format.proofs.Laws.Certify.Ascend.{Split, split}
+use Rattle.format.proofs.Laws.Range.List.{select-under, select-above}
+use Rattle.format.proofs.Laws.Read.Written.{runs_none, runs-cons, runs_append, put-room, fill-full, all-filled}
 use Rattle.ranges.specs.Taken.{taken, range_step, ranged}
 
 -- ---- entries taken

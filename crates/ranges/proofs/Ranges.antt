@@ -19,10 +19,10 @@ use Rattle.format.specs.Certify.{Ascending}
 use Rattle.format.specs.Range.{held, select}
 use Rattle.format.specs.Readable.{child_at, Node}
 use Rattle.format.specs.Written.{Out, out, put, walked}
-use Rattle.format.specs.Laws.Certify.Ascend.{Split, split}
-use Rattle.format.specs.Laws.Range.List.{select-few}
-use Rattle.format.specs.Laws.Read.Children.{on_child, on-at}
-use Rattle.format.specs.Laws.Read.Written.{none-walked, runs_none}
+use Rattle.format.proofs.Laws.Certify.Ascend.{Split, split}
+use Rattle.format.proofs.Laws.Range.List.{select-few}
+use Rattle.format.proofs.Laws.Read.Children.{on_child, on-at}
+use Rattle.format.proofs.Laws.Read.Written.{none-walked, runs_none}
 use Rattle.btree.proofs.Runs.{left, some_left, none_left, all_left, slots-more, children-more, children-last, entries-leaf, entries-inner}
 use Rattle.ranges.specs.Taken.{range_step, ranged}
 use Rattle.ranges.proofs.Bounds.{node-few}

@@ -11,7 +11,7 @@ use Rattle.format.specs.Refusal.{Answer, gives, refuses, number, check_of}
 use Rattle.format.specs.Layout.{Layout, Limits, record_size}
 use Rattle.format.specs.Check.{counted, check_archive}
 use Rattle.format.specs.Readable.{Down}
-use Rattle.format.specs.Laws.Calls.Accepted.{room_for, root-back}
+use Rattle.format.proofs.Laws.Calls.Accepted.{room_for, root-back}
 
 pub accepted-told : {a : Answer ℕ} {r : CheckAnswer} {n : ℕ} → r ≡ Accepted n → check_of r ≡ a → a ≡ gives n
 accepted-told h e = sym e ∙ ap check_of h

@@ -10,8 +10,8 @@ use Rattle.format.specs.Layout.{Layout}
 use Rattle.format.specs.Bytes.{put}
 use Rattle.format.specs.Tree.{Slot, slot_of, Branch, length_branches, length_branch, child_of, slots_of, greater_of, write_branches, write_branch, KeyValue}
 use Rattle.format.specs.Build.{Filled, FilledBranches, fill_next, fill_branches, pairs}
-use Rattle.format.specs.Laws.Numbers.Bytes.{put-append}
-use Rattle.format.specs.Laws.Build.NodeBytes.{length-write_branch}
+use Rattle.format.proofs.Laws.Numbers.Bytes.{put-append}
+use Rattle.format.proofs.Laws.Build.NodeBytes.{length-write_branch}
 use Rattle.nodes.specs.Nodes.{child_at}
 use Rattle.serialize.specs.declared.map.Place.{Place}
 use Rattle.serialize.specs.Wrote.{from, Wrote}

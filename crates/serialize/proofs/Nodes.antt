@@ -11,9 +11,9 @@ use Rattle.format.specs.Layout.{Layout, leaf_size, inner_size}
 use Rattle.format.specs.Bytes.{put}
 use Rattle.format.specs.Tree.{Slot, leaf_bytes, inner_bytes, length_branches, length_branch, slots_of, greater_of, write_branches, KeyValue}
 use Rattle.format.specs.Build.{Filled, FilledBranches, closed, fill_branches, fill_leaf, fill, pairs}
-use Rattle.format.specs.Laws.Numbers.Bytes.{put-append}
+use Rattle.format.proofs.Laws.Numbers.Bytes.{put-append}
 use Rattle.format.specs.Weight.{upper, room}
-use Rattle.format.specs.Laws.Build.NodeBytes.{length-write_branches}
+use Rattle.format.proofs.Laws.Build.NodeBytes.{length-write_branches}
 use Rattle.nodes.specs.Nodes.{child_at, slots_in}
 use Rattle.serialize.specs.declared.map.Place.{Place}
 use Rattle.serialize.specs.declared.map.FullInner.{FullInner}

@@ -9,8 +9,8 @@ use Rattle.format.specs.Layout.{Layout}
 use Rattle.format.specs.Tree.{Slot}
 use Rattle.format.specs.Build.{fill_branches, fill, pairs}
 use Rattle.format.specs.Weight.{upper, room}
-use Rattle.format.specs.Laws.Build.Filling.{fill-took}
-use Rattle.format.specs.Laws.Build.Given.{length_pairs}
+use Rattle.format.proofs.Laws.Build.Filling.{fill-took}
+use Rattle.format.proofs.Laws.Build.Given.{length_pairs}
 use Rattle.nodes.specs.Nodes.{slot_in, slots_in, Within}
 use Rattle.serialize.specs.declared.map.Place.{Place}
 use Rattle.serialize.specs.declared.map.OpenInner.{OpenInner}

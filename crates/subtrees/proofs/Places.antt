@@ -7,7 +7,7 @@ use borrow.Author.Tests.{leb-true, ltb-true, eqb-true, le-leb, lt-leb, lt-ltb, l
 use Rattle.format.specs.Check.{Checked, accepted, guard}
 use Rattle.format.specs.declared.Refusal.{Refusal}
 use Rattle.format.specs.declared.Refusal.TheVariants.{InvalidSubtreePointer, UnalignedPointer, ExceededMaximumSubtreeDepth}
-use Rattle.format.specs.Laws.Check.Sound.{guard-inv}
+use Rattle.format.proofs.Laws.Check.Sound.{guard-inv}
 use Rattle.subtrees.specs.Subtree.{placed, shallow, opened, Held}
 use Rattle.subtrees.specs.Answers.{ptr_of}
 use Rattle.subtrees.specs.declared.archive.PtrAnswer.{PtrAnswer}

@@ -11,7 +11,7 @@ use Rattle.format.specs.RelPtr.{absent}
 use Rattle.format.specs.Node.{child}
 use Rattle.format.specs.Check.{Checked, accepted, refused, check_children, check_node}
 use Rattle.format.specs.Refusal.{number}
-use Rattle.format.specs.Laws.Check.Bounds.{check-bytes}
+use Rattle.format.proofs.Laws.Check.Bounds.{check-bytes}
 use Rattle.format.specs.declared.Position.{Position}
 use Rattle.format.specs.declared.Refusal.{Refusal}
 use Rattle.subtrees.specs.Answers.{node_of}

@@ -10,7 +10,7 @@ use Rattle.format.specs.Bytes.{le_at}
 use Rattle.format.specs.Node.{slot}
 use Rattle.format.specs.Entries.{slots}
 use Rattle.format.specs.Written.{Out, out, put, fill, walked}
-use Rattle.format.specs.Laws.Read.Written.{runs_none, runs-cons, put-room, fill-full, all-filled}
+use Rattle.format.proofs.Laws.Read.Written.{runs_none, runs-cons, put-room, fill-full, all-filled}
 
 pub full-kept : (es : List Entry) (ks vs : List ℕ) (n : ℕ) → min (length ks) (length vs) ≤ n → out ks vs n ≡ fill es (out ks vs n)
 full-kept es ks vs n h = sym (fill-full es ks vs n h)

@@ -13,9 +13,9 @@ use Rattle.format.specs.Entries.{list_children, list_at}
 use Rattle.format.specs.Certify.{any_children, hollow_at}
 use Rattle.format.specs.Readable.{child_at}
 use Rattle.format.specs.Written.{runs}
-use Rattle.format.specs.Laws.Read.Children.{on_child}
-use Rattle.format.specs.Laws.Read.Node.{as-inner, node-room, child-falls}
-use Rattle.format.specs.Laws.Read.Written.{runs_none}
+use Rattle.format.proofs.Laws.Read.Children.{on_child}
+use Rattle.format.proofs.Laws.Read.Node.{as-inner, node-room, child-falls}
+use Rattle.format.proofs.Laws.Read.Written.{runs_none}
 use Rattle.certification.specs.Survey.{step, raised}
 use Rattle.btree.proofs.NextChild.{next-child}
 use Rattle.btree.proofs.Runs.{left, left_step, left-last, left-done}

@@ -6,7 +6,7 @@ use borrow.Author.Rules.{rules}
 use Rattle.format.specs.Layout.{layout_of}
 use Rattle.format.specs.Entries.{slots}
 use Rattle.format.specs.Written.{runs}
-use Rattle.format.specs.Laws.Read.Node.{as-leaf}
+use Rattle.format.proofs.Laws.Read.Node.{as-leaf}
 use Rattle.certification.specs.Survey.{step}
 use Rattle.btree.proofs.Runs.{leaf-step, leaf-done, leaf-run}
 use Rattle.certification.proofs.Surveys.{leaf-empty, leaf-filled}

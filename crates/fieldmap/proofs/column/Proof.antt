@@ -8,8 +8,8 @@ use mir.Facts.{to_z-of_z}
 use borrow.Author.Rules.{rules}
 use Rattle.format.specs.declared.Packing.{Packing}
 use Rattle.format.specs.Key.{column_bounds}
-use Rattle.format.specs.Laws.Calls.Certified.{column-ranges, column-keys-ranges, column-values-ranges}
-use Rattle.format.specs.Laws.Calls.Certified.{column-uncertified, column-refused, column-keys-refused, column-values-refused}
+use Rattle.format.proofs.Laws.Calls.Certified.{column-ranges, column-keys-ranges, column-values-ranges}
+use Rattle.format.proofs.Laws.Calls.Certified.{column-uncertified, column-refused, column-keys-refused, column-values-refused}
 use Rattle.perimetry.specs.declared.column.Columns.{Columns}
 use Rattle.perimetry.specs.Answers.{columns_of}
 use Rattle.readers.proofs.Told.{accepted-told, refused-told}

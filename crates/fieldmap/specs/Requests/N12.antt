@@ -14,14 +14,14 @@ use Rattle.format.specs.NodeRelation.{Valid}
 use Rattle.format.specs.NestedNodes.{nested_nodes}
 use Rattle.format.specs.Calls.{lookup_call, bytes_call, place_call, walk_call, walk_keys, walk_values, range_call, range_keys, range_values}
 use Rattle.format.specs.Calls.{column_call, column_keys, column_values}
-use Rattle.format.specs.Laws.Numbers.Limits.{counts-within, viewer-server, within-server}
-use Rattle.format.specs.Laws.Check.Depth.{viewer-deepest, viewer-too-deep}
-use Rattle.format.specs.Laws.Check.Refusals.{refusal-1}
-use Rattle.format.specs.Laws.Calls.Accepted.{is-archive, is-recorded, lookup-refuses, walk-refuses}
-use Rattle.format.specs.Laws.Calls.Certified.{range-refuses}
-use Rattle.format.specs.Laws.Calls.Limits.{accepts-same, certify-same, refuses-same, uncertified-same, lookup-call-same, bytes_same, place_same}
-use Rattle.format.specs.Laws.Calls.Limits.{walk_same, walk-keys-same, walk-values-same, range_same, range-keys-same, range-values-same}
-use Rattle.format.specs.Laws.Calls.Limits.{column-same, column-keys-same, column-values-same, column-refuses-same}
+use Rattle.format.proofs.Laws.Numbers.Limits.{counts-within, viewer-server, within-server}
+use Rattle.format.proofs.Laws.Check.Depth.{viewer-deepest, viewer-too-deep}
+use Rattle.format.proofs.Laws.Check.Refusals.{refusal-1}
+use Rattle.format.proofs.Laws.Calls.Accepted.{is-archive, is-recorded, lookup-refuses, walk-refuses}
+use Rattle.format.proofs.Laws.Calls.Certified.{range-refuses}
+use Rattle.format.proofs.Laws.Calls.Limits.{accepts-same, certify-same, refuses-same, uncertified-same, lookup-call-same, bytes_same, place_same}
+use Rattle.format.proofs.Laws.Calls.Limits.{walk_same, walk-keys-same, walk-values-same, range_same, range-keys-same, range-values-same}
+use Rattle.format.proofs.Laws.Calls.Limits.{column-same, column-keys-same, column-values-same, column-refuses-same}
 use Rattle.fieldmap.specs.Refusals.{lookup-refused, walk_refused, range-refused}
 use Rattle.fieldmap.specs.Demands.{demand-3-build}
 

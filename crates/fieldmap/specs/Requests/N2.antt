@@ -7,8 +7,8 @@ use Rattle.format.specs.Layout.{Layout, Limits}
 use Rattle.format.specs.Bytes.{AllBytes}
 use Rattle.format.specs.Entries.{list}
 use Rattle.format.specs.Range.{key_meets_lower, key_meets_upper, select, crosses, range, Fits, ends_of, holds, held}
-use Rattle.format.specs.Laws.Range.Ends.{ends-hold, excluded-at-0-below, excluded-at-0-above, open-below, open_above, crossed-nothing, range-ends}
-use Rattle.format.specs.Laws.Range.Ends.{excluded-at-the-largest-below, excluded-at-the-largest-above}
+use Rattle.format.proofs.Laws.Range.Ends.{ends-hold, excluded-at-0-below, excluded-at-0-above, open-below, open_above, crossed-nothing, range-ends}
+use Rattle.format.proofs.Laws.Range.Ends.{excluded-at-the-largest-below, excluded-at-the-largest-above}
 
 -- `ranges::iter::ends_of` gives `ends_of` of the two bounds, before the first node
 

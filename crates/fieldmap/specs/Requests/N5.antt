@@ -17,10 +17,10 @@ use Rattle.format.specs.Range.{select}
 use Rattle.format.specs.Column.{takes, OfEye, eye_with, Before, column}
 use Rattle.format.specs.Written.{written, keys_after, values_after}
 use Rattle.format.specs.Calls.{column_call, column_keys, column_values}
-use Rattle.format.specs.Laws.Numbers.Key.{plus-fields, unpack-pack, pack-unpack}
-use Rattle.format.specs.Laws.Numbers.Packings.{top-bits, left-to-right, below-0-behind}
-use Rattle.format.specs.Laws.Range.Column.{column-exactly, column-none, old-one-side, old-around, old-across}
-use Rattle.format.specs.Laws.Calls.Certified.{column-certified, column-keys-certified, column-values-certified}
+use Rattle.format.proofs.Laws.Numbers.Key.{plus-fields, unpack-pack, pack-unpack}
+use Rattle.format.proofs.Laws.Numbers.Packings.{top-bits, left-to-right, below-0-behind}
+use Rattle.format.proofs.Laws.Range.Column.{column-exactly, column-none, old-one-side, old-around, old-across}
+use Rattle.format.proofs.Laws.Calls.Certified.{column-certified, column-keys-certified, column-values-certified}
 
 -- "because two's complement puts -3 above 3": of one eye, old keys with x below 0 are above those with x from 0 on, so where keys ascend they come later.
 pub n5-old-order : (exam eye k l : ℕ) → OfEye exam eye (fields_of TwosComplement k) → OfEye exam eye (fields_of TwosComplement l)

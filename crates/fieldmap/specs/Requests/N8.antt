@@ -15,10 +15,10 @@ use Rattle.format.specs.Build.{height, last_level, tree_of, start, behind, pairs
 use Rattle.format.specs.Built.{Taken}
 use Rattle.format.specs.Offsets.{archive_emplaces}
 use Rattle.format.specs.Weight.{reach}
-use Rattle.format.specs.Laws.Numbers.Widths.{in-range}
-use Rattle.format.specs.Laws.Check.Refusals.{too_short}
-use Rattle.format.specs.Laws.Build.Taken.{taken, by-16}
-use Rattle.format.specs.Laws.Build.Certifies.{by_number, wide-gives}
+use Rattle.format.proofs.Laws.Numbers.Widths.{in-range}
+use Rattle.format.proofs.Laws.Check.Refusals.{too_short}
+use Rattle.format.proofs.Laws.Build.Taken.{taken, by-16}
+use Rattle.format.proofs.Laws.Build.Certifies.{by_number, wide-gives}
 use Rattle.fieldmap.specs.Refusals.{wide-build-by, wide-length-by}
 
 -- "Walk, lookup and certification are proved over the width as a parameter": each call that builds,

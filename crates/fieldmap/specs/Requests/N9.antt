@@ -10,15 +10,15 @@ use Rattle.format.specs.Check.{Checked, refused, counted, check_body, check_arch
 use Rattle.format.specs.Certify.{certify}
 use Rattle.format.specs.Calls.{column_call, column_keys, column_values}
 use Rattle.format.specs.Build.{log_from, height, last_level, pairs, build, build_length, out_by, out_after}
-use Rattle.format.specs.Laws.Check.Refusals.{check-by, certify-by, leaf-6, only-24}
+use Rattle.format.proofs.Laws.Check.Refusals.{check-by, certify-by, leaf-6, only-24}
 use Rattle.fieldmap.specs.Refusals.{build-by, length-by, column-refused-by}
 use Rattle.format.specs.Calls.{lookup_call, bytes_call, place_call, walk_call, walk_keys, walk_values, range_call, range_keys, range_values}
 use Rattle.format.specs.Node.{leaf, leaf_count}
-use Rattle.format.specs.Laws.Build.Height.{height-log}
-use Rattle.format.specs.Laws.Calls.Accepted.{is-archive, lookup-refuses, bytes-refuses, place-refuses, walk-refuses, walk-keys-refuses, walk-values-refuses}
-use Rattle.format.specs.Laws.Calls.Certified.{range-refuses, range-keys-refuses, range-values-refuses, column-uncertified}
-use Rattle.format.specs.Laws.Build.Longest.{height-most}
-use Rattle.format.specs.Laws.Build.Lengths.{build-most}
+use Rattle.format.proofs.Laws.Build.Height.{height-log}
+use Rattle.format.proofs.Laws.Calls.Accepted.{is-archive, lookup-refuses, bytes-refuses, place-refuses, walk-refuses, walk-keys-refuses, walk-values-refuses}
+use Rattle.format.proofs.Laws.Calls.Certified.{range-refuses, range-keys-refuses, range-values-refuses, column-uncertified}
+use Rattle.format.proofs.Laws.Build.Longest.{height-most}
+use Rattle.format.proofs.Laws.Build.Lengths.{build-most}
 
 -- "Every size follows from it": the sizes of `Layout` are functions of the layout alone. "With 4-byte pointers a leaf is 16 + 16e bytes and an inner node
 -- 12 + 20e rounded up to 8."

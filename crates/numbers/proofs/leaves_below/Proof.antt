@@ -6,7 +6,7 @@ use lib.ListN.{length}
 use borrow.Author.Rules.{rules}
 use Rattle.format.specs.Layout.{Layout, leaf_size}
 use Rattle.format.specs.Readable.{LeadsTo}
-use Rattle.format.specs.Laws.Numbers.Widths.{bytes-few}
+use Rattle.format.proofs.Laws.Numbers.Widths.{bytes-few}
 use Rattle.numbers.specs.Numbers.{width_for, numbered}
 use Rattle.quick.proofs.Passing.{leaf-child, SoFar, none_passed, one-passed, all-passed}
 use Rattle.numbers.proofs.Numbered.{leaf-is, leads-by, child-is, field-near, absent-rest}

@@ -8,8 +8,8 @@ use Rattle.format.specs.Layout.{Layout, layout_of, limits_of}
 use Rattle.format.specs.Refusal.{gives}
 use Rattle.format.specs.Check.{counted}
 use Rattle.format.specs.Certify.{certify}
-use Rattle.format.specs.Laws.Numbers.Widths.{range-in}
-use Rattle.format.specs.Laws.Numbers.Limits.{within-server}
+use Rattle.format.proofs.Laws.Numbers.Widths.{range-in}
+use Rattle.format.proofs.Laws.Numbers.Limits.{within-server}
 use Rattle.orders.proofs.quick_certify.Statement.{statement}
 use Rattle.orders.proofs.quick_certify.Tie as tie
 

@@ -5,7 +5,7 @@ use Prim.Native.Nat.{ℕ, ◌+◌, ◌-◌, ◌<◌, ◌≤◌}
 use native.Mathlib.Omega.{arith}
 use borrow.Author.Rules.{rules}
 use Rattle.format.specs.Bytes.{le_at}
-use Rattle.format.specs.Laws.Check.Reach.{true≢false}
+use Rattle.format.proofs.Laws.Check.Reach.{true≢false}
 use Rattle.ordered.specs.Order.{key_in}
 use Rattle.ordered.proofs.Order.{each_more}
 use Rattle.orders.proofs.rising.Statement.{statement}

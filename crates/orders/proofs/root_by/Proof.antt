@@ -9,7 +9,7 @@ use borrow.Author.Rules.{rules}
 use Rattle.format.specs.Layout.{Layout, layout_of, entries_in_range, width_of, nested, pointer, inner_size, record_size, record_align}
 use Rattle.format.specs.Bytes.{le_at}
 use Rattle.format.specs.Check.{root, recorded}
-use Rattle.format.specs.Laws.Numbers.Widths.{in-range}
+use Rattle.format.proofs.Laws.Numbers.Widths.{in-range}
 use Rattle.numbers.specs.Numbers.{numbered, Numbers, InnerBack}
 use Rattle.numbers.proofs.Numbered.{numbered_is, numbers_of}
 use Rattle.ordered.specs.Order.{KeysBelow}

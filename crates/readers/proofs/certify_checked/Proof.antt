@@ -1,7 +1,7 @@
 -- `readers::certify_checked` meets its contract. Assumes nothing.
 use mathlib.Core.Path.{sym}
-use Rattle.format.specs.Laws.Numbers.Limits.{within-server}
-use Rattle.format.specs.Laws.Calls.Accepted.{entries-few, node, certify-refuses, certify-none, certify-8, certify-9, certify-all}
+use Rattle.format.proofs.Laws.Numbers.Limits.{within-server}
+use Rattle.format.proofs.Laws.Calls.Accepted.{entries-few, node, certify-refuses, certify-none, certify-8, certify-9, certify-all}
 use borrow.Author.Rules.{rules}
 use Rattle.readers.proofs.Told.{accepted-told, refused-told, root-requires}
 use Rattle.readers.proofs.certify_checked.Statement.{statement}

@@ -1,8 +1,8 @@
 -- `readers::look_up_many` meets its contract. Assumes nothing.
 use mathlib.Core.Path.{sym}
 use borrow.Author.Rules.{rules}
-use Rattle.format.specs.Laws.Numbers.Limits.{within-server}
-use Rattle.format.specs.Laws.Calls.Accepted.{entries-few, node}
+use Rattle.format.proofs.Laws.Numbers.Limits.{within-server}
+use Rattle.format.proofs.Laws.Calls.Accepted.{entries-few, node}
 use Rattle.lookups.proofs.ManyLookups.{many-refuses, many-values-refuses, many-none, many-values-none, many-gives, many-values-gives}
 use Rattle.readers.proofs.Told.{accepted-told, refused-told, root-requires}
 use Rattle.readers.proofs.look_up_many.Statement.{statement}

@@ -1,7 +1,7 @@
 -- `readers::lookup` meets its contract. Assumes nothing.
 use mathlib.Core.Path.{sym, ◌∙◌}
-use Rattle.format.specs.Laws.Numbers.Limits.{within-server}
-use Rattle.format.specs.Laws.Calls.Accepted.{entries-few, node, lookup-refuses, lookup-none, lookup-gives}
+use Rattle.format.proofs.Laws.Numbers.Limits.{within-server}
+use Rattle.format.proofs.Laws.Calls.Accepted.{entries-few, node, lookup-refuses, lookup-none, lookup-gives}
 use borrow.Author.Rules.{rules}
 use Rattle.readers.proofs.Told.{accepted-told, refused-told, root-requires}
 use Rattle.readers.proofs.lookup.Statement.{statement}

@@ -1,8 +1,8 @@
 -- `readers::lookup_bytes` meets its contract. Assumes nothing.
 use mathlib.Core.Path.{refl, sym, ◌∙◌}
 use native.Mathlib.Omega.{arith}
-use Rattle.format.specs.Laws.Numbers.Limits.{within-server}
-use Rattle.format.specs.Laws.Calls.Accepted.{entries-few, node, bytes-refuses, bytes-none, bytes_gives, place-refuses, place_none, place-gives}
+use Rattle.format.proofs.Laws.Numbers.Limits.{within-server}
+use Rattle.format.proofs.Laws.Calls.Accepted.{entries-few, node, bytes-refuses, bytes-none, bytes_gives, place-refuses, place_none, place-gives}
 use Rattle.lookups.proofs.Finds.{same_place}
 use borrow.Author.Rules.{rules}
 use Rattle.readers.proofs.Told.{accepted-told, refused-told, root-requires}

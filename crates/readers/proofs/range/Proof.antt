@@ -1,9 +1,9 @@
 -- `readers::range` meets its contract. Assumes nothing.
 use mathlib.Core.Path.{sym}
-use Rattle.format.specs.Laws.Numbers.Limits.{within-server}
-use Rattle.format.specs.Laws.Calls.Accepted.{entries-few, node}
-use Rattle.format.specs.Laws.Calls.Certified.{certified-accepts, ascending-root, range-refuses, range-keys-refuses, range-values-refuses}
-use Rattle.format.specs.Laws.Calls.Certified.{range_none, range-keys-none, range-values-none, range_gives, range-keys-gives, range-values-gives}
+use Rattle.format.proofs.Laws.Numbers.Limits.{within-server}
+use Rattle.format.proofs.Laws.Calls.Accepted.{entries-few, node}
+use Rattle.format.proofs.Laws.Calls.Certified.{certified-accepts, ascending-root, range-refuses, range-keys-refuses, range-values-refuses}
+use Rattle.format.proofs.Laws.Calls.Certified.{range_none, range-keys-none, range-values-none, range_gives, range-keys-gives, range-values-gives}
 use borrow.Author.Rules.{rules}
 use Rattle.readers.proofs.Told.{accepted-told, refused-told, root-requires}
 use Rattle.readers.proofs.range.Statement.{statement}

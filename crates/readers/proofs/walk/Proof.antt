@@ -1,8 +1,8 @@
 -- `readers::walk` meets its contract. Assumes nothing.
 use mathlib.Core.Path.{sym}
-use Rattle.format.specs.Laws.Numbers.Limits.{within-server}
-use Rattle.format.specs.Laws.Calls.Accepted.{entries-few, node, walk-refuses, walk-keys-refuses, walk-values-refuses}
-use Rattle.format.specs.Laws.Calls.Accepted.{walk_none, walk-keys-none, walk-values-none, walk-gives, walk-keys-gives, walk-values-gives}
+use Rattle.format.proofs.Laws.Numbers.Limits.{within-server}
+use Rattle.format.proofs.Laws.Calls.Accepted.{entries-few, node, walk-refuses, walk-keys-refuses, walk-values-refuses}
+use Rattle.format.proofs.Laws.Calls.Accepted.{walk_none, walk-keys-none, walk-values-none, walk-gives, walk-keys-gives, walk-values-gives}
 use borrow.Author.Rules.{rules}
 use Rattle.readers.proofs.Told.{accepted-told, refused-told, root-requires}
 use Rattle.readers.proofs.walk.Statement.{statement}

@@ -5,7 +5,7 @@ use native.Mathlib.Omega.{arith}
 use lib.ListN.{length}
 use Rattle.format.specs.Layout.{Layout, layout_of, pointer}
 use Rattle.format.specs.Node.{child}
-use Rattle.format.specs.Laws.Numbers.Widths.{reach, field_is}
+use Rattle.format.proofs.Laws.Numbers.Widths.{reach, field_is}
 use Rattle.btree.proofs.Back.{field-absent, field-inside, field-there}
 use borrow.Author.Rules.{rules}
 use Rattle.btree.proofs.node.child_at.Statement.{statement}

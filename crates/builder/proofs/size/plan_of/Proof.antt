@@ -3,7 +3,7 @@ use Prim.Native.Nat.{◌≤◌, ◌<◌}
 use native.Mathlib.Omega.{arith}
 use lib.Dec.{lit≤}
 use Rattle.format.specs.Layout.{layout_of}
-use Rattle.format.specs.Laws.Build.Longest.{nodes-small}
+use Rattle.format.proofs.Laws.Build.Longest.{nodes-small}
 use Rattle.builder.specs.Size.{Named}
 use Rattle.builder.proofs.Levels.{fits}
 use Rattle.serialize.proofs.Nodes.{not_none}

@@ -3,7 +3,7 @@ use Prim.Native.Nat.{suc, ◌-◌}
 use mathlib.Core.Path.{◌≡◌}
 use native.Mathlib.Omega.{arith}
 use Rattle.format.specs.Layout.{layout_of}
-use Rattle.format.specs.Laws.Build.Longest.{nodes-small}
+use Rattle.format.proofs.Laws.Build.Longest.{nodes-small}
 use Rattle.builder.proofs.Levels.{fits}
 use Rattle.builder.proofs.Reach.{FirstChild, before, two-before, inner-in, reach-none, reach-one, first-few, reach-more}
 use borrow.Author.Rules.{rules}

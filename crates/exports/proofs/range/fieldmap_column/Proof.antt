@@ -4,7 +4,7 @@ use mathlib.Core.Path.{◌∙◌, sym, ap}
 use native.Mathlib.Omega.{arith}
 use borrow.Author.Rules.{rules}
 use Rattle.format.specs.Layout.{server}
-use Rattle.format.specs.Laws.Numbers.Limits.{within-server}
+use Rattle.format.proofs.Laws.Numbers.Limits.{within-server}
 use Rattle.exports.proofs.Numbers.{column-most}
 use Rattle.readers.specs.Answers.{range_of}
 use Rattle.codes.specs.Answers.{range_written, range_matching}

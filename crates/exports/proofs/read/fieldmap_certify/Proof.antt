@@ -4,9 +4,9 @@ use mathlib.Core.Path.{◌∙◌, sym, ap}
 use native.Mathlib.Omega.{arith}
 use borrow.Author.Rules.{rules}
 use Rattle.format.specs.Layout.{server}
-use Rattle.format.specs.Laws.Numbers.Limits.{within-server}
+use Rattle.format.proofs.Laws.Numbers.Limits.{within-server}
 use Rattle.exports.proofs.Numbers.{count_most}
-use Rattle.format.specs.Laws.Calls.Certified.{certified-accepts}
+use Rattle.format.proofs.Laws.Calls.Certified.{certified-accepts}
 use Rattle.codes.specs.Answers.{coded}
 use Rattle.codes.proofs.Coded.{told-counted, returned}
 use Rattle.exports.proofs.read.fieldmap_certify.Statement.{statement}

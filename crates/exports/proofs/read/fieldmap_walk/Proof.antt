@@ -3,7 +3,7 @@ use mathlib.Core.Path.{◌∙◌, sym, ap}
 use native.Mathlib.Omega.{arith}
 use borrow.Author.Rules.{rules}
 use Rattle.format.specs.Layout.{server}
-use Rattle.format.specs.Laws.Numbers.Limits.{within-server}
+use Rattle.format.proofs.Laws.Numbers.Limits.{within-server}
 use Rattle.exports.proofs.Numbers.{walk-most}
 use Rattle.readers.specs.Answers.{walk_of}
 use Rattle.codes.specs.Answers.{walk_written, walk_count}

@@ -4,7 +4,7 @@ use mathlib.Core.Path.{◌∙◌, sym, ap}
 use native.Mathlib.Omega.{arith}
 use borrow.Author.Rules.{rules}
 use Rattle.format.specs.Layout.{server}
-use Rattle.format.specs.Laws.Build.Lengths.{length_most}
+use Rattle.format.proofs.Laws.Build.Lengths.{length_most}
 use Rattle.builder.specs.Answers.{built_of}
 use Rattle.codes.proofs.Coded.{code-given, code-refused, told-given, told-refused, returned}
 use Rattle.exports.proofs.write.fieldmap_build_length.Statement.{statement}

@@ -1,5 +1,5 @@
 -- `fields::primitive::put_u64` meets its contract. Assumes nothing.
-use Rattle.format.specs.Laws.Numbers.Bytes.{put-parts}
+use Rattle.format.proofs.Laws.Numbers.Bytes.{put-parts}
 use Rattle.fields.proofs.primitive.put_u64.Goals as goal
 
 

@@ -1,6 +1,6 @@
 -- `fields::primitive::u64_at` meets its contract. Assumes nothing.
 use native.Mathlib.Omega.{arith}
-use Rattle.format.specs.Laws.Numbers.Bytes.{le_at-add}
+use Rattle.format.proofs.Laws.Numbers.Bytes.{le_at-add}
 use Rattle.fields.proofs.primitive.u64_at.Goals as goal
 
 

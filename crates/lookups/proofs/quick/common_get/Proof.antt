@@ -6,7 +6,7 @@ use lib.ListN.{length}
 use Rattle.format.specs.Layout.{layout32, leaf_size, server, nested}
 use Rattle.format.specs.Lookup.{lookup_at}
 use Rattle.format.specs.Readable.{Node}
-use Rattle.format.specs.Laws.Read.Node.{node-room, as-leaf, as-inner, child-falls}
+use Rattle.format.proofs.Laws.Read.Node.{node-room, as-leaf, as-inner, child-falls}
 use Rattle.lookups.proofs.Finds.{seek-slot, seek-child, leaf-count, leaf-slot, leaf-hit, leaf-miss, inner-hit, inner-miss, inner-down}
 use borrow.Author.Rules.{rules}
 use Rattle.lookups.proofs.quick.common_get.Statement.{statement}

@@ -4,7 +4,7 @@ use Prim.Native.Nat.{◌+◌, ◌*◌, ◌^◌, ◌≤◌, ◌<◌}
 use native.Mathlib.Omega.{arith}
 use lib.ListN.{length}
 use Rattle.format.specs.Layout.{layout_of, inner_size}
-use Rattle.format.specs.Laws.Numbers.Widths.{area, reach, field_is}
+use Rattle.format.proofs.Laws.Numbers.Widths.{area, reach, field_is}
 use Rattle.nodes.specs.Nodes.{child_at}
 use Rattle.nodes.proofs.Closed.{inner-closed}
 use Rattle.nodes.proofs.node.close_inner.Statement.{statement}

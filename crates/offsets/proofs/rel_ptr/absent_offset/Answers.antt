@@ -1,7 +1,7 @@
 -- `offsets::rel_ptr::absent_offset` meets its contract. Assumes nothing.
 use mathlib.Core.Path.{sym, ◌∙◌}
 use borrow.Author.Rules.{rules}
-use Rattle.format.specs.Laws.Numbers.RelPtr.{absent-last, absent-next}
+use Rattle.format.proofs.Laws.Numbers.RelPtr.{absent-last, absent-next}
 use Rattle.offsets.proofs.rel_ptr.absent_offset.Goals as goal
 
 

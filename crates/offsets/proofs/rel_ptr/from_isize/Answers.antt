@@ -3,7 +3,7 @@ use Rattle.std.proofs.Common.{sym}
 use mir.Syntax.{w32}
 use mir.Val.{SFits}
 use mir.Facts.{to_z-of_z}
-use Rattle.format.specs.Laws.Numbers.RelPtr.{fits_gives}
+use Rattle.format.proofs.Laws.Numbers.RelPtr.{fits_gives}
 use Rattle.offsets.proofs.Offsets.{below-refused, above-refused, in-range}
 use Rattle.offsets.proofs.rel_ptr.from_isize.Goals as goal
 use Rattle.offsets.proofs.rel_ptr.from_isize.Goals.{then-z-ltminus2147483648-via-then-z-ltminus2147483648, then-z-ltminus2147483648-via-else-z-ltminus2147483648+then-z-gt2147483647}

@@ -4,7 +4,7 @@ use mir.Syntax.{w64}
 use mir.Facts.{to_z-of_z}
 use mir.Val.{SFits}
 use Rattle.format.specs.RelPtr.{fit_signed}
-use Rattle.format.specs.Laws.Numbers.RelPtr.{stored-given, stored-15}
+use Rattle.format.proofs.Laws.Numbers.RelPtr.{stored-given, stored-15}
 use Rattle.offsets.specs.Answers.{distance_of}
 use Rattle.offsets.proofs.rel_ptr.offset32.Goals as goal
 

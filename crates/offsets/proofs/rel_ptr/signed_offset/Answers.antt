@@ -1,6 +1,6 @@
 -- `offsets::rel_ptr::signed_offset`: a law for each way out.
 use Rattle.std.proofs.Common.{rules}
-use Rattle.format.specs.Laws.Numbers.RelPtr.{offset-ahead, offset-behind, fits_gives, fits_refused}
+use Rattle.format.proofs.Laws.Numbers.RelPtr.{offset-ahead, offset-behind, fits_gives, fits_refused}
 use Rattle.offsets.proofs.rel_ptr.signed_offset.Goals as goal
 
 ruleset laws = (rules, offset-ahead, offset-behind, fits_gives, fits_refused)

@@ -3,7 +3,7 @@ use mathlib.Core.Logic.{⊎_elim}
 use mathlib.Core.Path.{sym}
 use mir.Facts.{to_z-of_z}
 use borrow.Author.Rules.{rules}
-use Rattle.format.specs.Laws.Numbers.Key.{column-no-exam, column-no-eye, column-given}
+use Rattle.format.proofs.Laws.Numbers.Key.{column-no-exam, column-no-eye, column-given}
 use Rattle.perimetry.proofs.column.column_bounds.Statement.{statement}
 use Rattle.perimetry.proofs.column.column_bounds.Tie as tie
 

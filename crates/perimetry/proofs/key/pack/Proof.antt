@@ -3,7 +3,7 @@ use mathlib.Core.Logic.{⊎_elim}
 use mathlib.Core.Path.{sym}
 use mir.Facts.{to_z-of_z}
 use borrow.Author.Rules.{rules}
-use Rattle.format.specs.Laws.Numbers.Key.{pack-no-exam, pack-no-eye, pack-no-pres, pack-given}
+use Rattle.format.proofs.Laws.Numbers.Key.{pack-no-exam, pack-no-eye, pack-no-pres, pack-given}
 use Rattle.perimetry.proofs.key.pack.Statement.{statement}
 use Rattle.perimetry.proofs.key.pack.Tie as tie
 

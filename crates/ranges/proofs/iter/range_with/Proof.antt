@@ -8,7 +8,7 @@ use Rattle.format.specs.Layout.{layout_of, server, nested}
 use Rattle.format.specs.Bytes.{AllBytes}
 use Rattle.format.specs.Entries.{list_at}
 use Rattle.format.specs.Range.{matches, select, held}
-use Rattle.format.specs.Laws.Range.Ends.{none-held, node-ends}
+use Rattle.format.proofs.Laws.Range.Ends.{none-held, node-ends}
 use Rattle.ranges.proofs.EntryByEntry.{range-written}
 use Rattle.ranges.proofs.Ranges.{none_written}
 use borrow.Author.Rules.{rules}

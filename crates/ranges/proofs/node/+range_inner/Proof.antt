@@ -10,8 +10,8 @@ use Rattle.format.specs.Entries.{list_at}
 use Rattle.format.specs.Certify.{Ascending}
 use Rattle.format.specs.Readable.{Node}
 use Rattle.format.specs.Written.{out}
-use Rattle.format.specs.Laws.Read.Node.{as-leaf, as-inner, node-room, child-falls}
-use Rattle.format.specs.Laws.Read.Written.{runs_none}
+use Rattle.format.proofs.Laws.Read.Node.{as-leaf, as-inner, node-room, child-falls}
+use Rattle.format.proofs.Laws.Read.Written.{runs_none}
 use Rattle.ranges.specs.Taken.{ranged}
 use Rattle.btree.proofs.NextChild.{next-child}
 use Rattle.btree.proofs.Runs.{out-same, left_step, left-last, leaf-run}

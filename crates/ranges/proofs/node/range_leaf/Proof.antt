@@ -10,7 +10,7 @@ use Rattle.format.specs.Layout.{layout_of}
 use Rattle.format.specs.Entries.{slots}
 use Rattle.format.specs.Certify.{Ascending}
 use Rattle.format.specs.Written.{out}
-use Rattle.format.specs.Laws.Read.Written.{runs_none}
+use Rattle.format.proofs.Laws.Read.Written.{runs_none}
 use Rattle.ranges.specs.Taken.{ranged}
 use Rattle.btree.proofs.Runs.{out-same, slots-more, leaf-step, leaf-done}
 use Rattle.ranges.proofs.EntryByEntry.{stop-past, one-fits}

@@ -1,7 +1,7 @@
 -- `ranges::node::range_node` meets its contract. Assumes nothing.
 use native.Mathlib.Omega.{arith}
 use Rattle.format.specs.Layout.{server}
-use Rattle.format.specs.Laws.Read.Node.{as-leaf, node-room}
+use Rattle.format.proofs.Laws.Read.Node.{as-leaf, node-room}
 use Rattle.btree.proofs.Runs.{leaf-run}
 use Rattle.ranges.proofs.Ranges.{leaf-fits, node-fits}
 use borrow.Author.Rules.{rules}

@@ -3,7 +3,7 @@ use Prim.Native.Nat.{◌+◌, ◌*◌, ◌≤◌}
 use mathlib.Core.Path.{◌≡◌}
 use native.Mathlib.Omega.{arith}
 use Rattle.format.specs.Layout.{layout_of, pointer, inner_size}
-use Rattle.format.specs.Laws.Numbers.Widths.{reach, field_is}
+use Rattle.format.proofs.Laws.Numbers.Widths.{reach, field_is}
 use Rattle.format.specs.Node.{child}
 use borrow.Author.Rules.{rules}
 use Rattle.subtrees.proofs.node.child_field.Statement.{statement}

@@ -6,8 +6,8 @@ use borrow.Author.Tests.{not-true, not-false}
 use lib.ListN.{length}
 use Prim.Native.Nat.{◌-◌, ◌≤◌, ◌<◌}
 use Rattle.format.specs.Layout.{layout_of, entries_in_range, Limits, limits_of, record_size, record_align}
-use Rattle.format.specs.Laws.Numbers.Widths.{range-in}
-use Rattle.format.specs.Laws.Numbers.Limits.{within-server}
+use Rattle.format.proofs.Laws.Numbers.Widths.{range-in}
+use Rattle.format.proofs.Laws.Numbers.Limits.{within-server}
 use Rattle.subtrees.specs.Subtree.{opened}
 use Rattle.subtrees.proofs.Places.{opened-held}
 use Rattle.subtrees.specs.declared.archive.SubtreeRange.{SubtreeRange}

@@ -10,9 +10,9 @@ use Rattle.format.specs.Node.{child}
 use Rattle.format.specs.Entries.{list_children, list_at}
 use Rattle.format.specs.Readable.{child_at, Node}
 use Rattle.format.specs.Written.{out, put, fill}
-use Rattle.format.specs.Laws.Read.Children.{on_child}
-use Rattle.format.specs.Laws.Read.Node.{as-leaf, as-inner, node-room, child-falls}
-use Rattle.format.specs.Laws.Read.Written.{runs_none}
+use Rattle.format.proofs.Laws.Read.Children.{on_child}
+use Rattle.format.proofs.Laws.Read.Node.{as-leaf, as-inner, node-room, child-falls}
+use Rattle.format.proofs.Laws.Read.Written.{runs_none}
 use Rattle.btree.proofs.NextChild.{next-child}
 use Rattle.walks.proofs.Fills.{full-kept}
 use Rattle.btree.proofs.Runs.{out-same, left, left_step, left-last, left-done, leaf-run}

@@ -1,6 +1,6 @@
 -- `walks::map::visit` meets its contract. Assumes nothing.
 use native.Mathlib.Omega.{arith}
-use Rattle.format.specs.Laws.Read.Node.{as-leaf, node-room}
+use Rattle.format.proofs.Laws.Read.Node.{as-leaf, node-room}
 use Rattle.walks.proofs.Fills.{walk-done}
 use Rattle.btree.proofs.Runs.{leaf-run}
 use borrow.Author.Rules.{rules}

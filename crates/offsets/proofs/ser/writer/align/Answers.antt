@@ -3,7 +3,7 @@ use mathlib.Core.Bool.{true}
 use mathlib.Core.Path.{◌≡◌, sym, ◌∙◌}
 use native.Mathlib.Nat.{mod-lt, le_of_lt}
 use Rattle.format.specs.Align.{is_alignment}
-use Rattle.format.specs.Laws.Numbers.Align.{alignment-pos, step_given}
+use Rattle.format.proofs.Laws.Numbers.Align.{alignment-pos, step_given}
 use Rattle.offsets.proofs.Alignments.{step_past, step-refused}
 use Rattle.offsets.proofs.ser.writer.align.Goals as goal
 
