@@ -1,10 +1,7 @@
 -- `codes::counted` meets its contract. Assumes nothing.
-use Prim.Native.Nat.{ℕ}
 use mathlib.Core.Path.{ap}
 use Rattle.format.specs.Refusal.{check_of}
-use Rattle.codes.proofs.Coded.{code-given, code-refused, returned}
 use Rattle.codes.proofs.counted.Goals as goal
-
 
 pub given-requires : goal.given-requires
 given-requires c =

@@ -1,10 +1,7 @@
 -- `fields::primitive::put_u16` meets its contract. Assumes nothing.
-use native.Mathlib.Omega.{arith}
 use native.Mathlib.Numerals.{towards_suc}
-use lib.ListN.{length-set}
 use Rattle.format.specs.Bytes.{le_bytes}
 use Rattle.fields.proofs.primitive.put_u16.Goals as goal
-
 
 pub returns : goal.returns
 unfolding le_bytes

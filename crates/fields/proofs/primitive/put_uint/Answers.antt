@@ -1,9 +1,6 @@
 -- `fields::primitive::put_uint` meets its contract. Assumes nothing.
-use native.Mathlib.Omega.{arith}
 use Rattle.format.proofs.Laws.Numbers.Bytes.{le_bytes-mod}
-use Rattle.fields.proofs.Widths.{as_bytes}
 use Rattle.fields.proofs.primitive.put_uint.Goals as goal
-
 
 pub returns-in-Two : goal.returns-in-Two
 returns-in-Two c =

@@ -12,7 +12,6 @@ use Rattle.format.specs.Tree.{Slot, slot_of, inner_bytes, last_b, more_b, Branch
 use Rattle.format.specs.Tree.{write_branches, write_branch}
 use Rattle.format.specs.Build.{Filled, FilledBranches, closed, fill_next, fill_branches}
 use Rattle.format.specs.Serialize.{State, grow, climb}
-use Rattle.format.proofs.Laws.Check.Count.{count}
 use Rattle.format.proofs.Laws.Build.Filling.{Took}
 use Rattle.format.proofs.Laws.Build.LoopSteps.{climb-close, climb-grow, TurnsTo, leads-then, leads-to}
 

@@ -4,7 +4,6 @@ use Rattle.std.proofs.Common.{sym, ◌∙◌, arith, eqb-true, eq-eqb, ne_eqb, l
 use Rattle.std.proofs.lemmas.Bool.{eqb-false}
 use Rattle.format.specs.declared.Entry.{Entry}
 use Rattle.format.specs.declared.Found.TheVariants.{Entry as found, Nothing as nothing}
-use Rattle.format.specs.RelPtr.{at}
 use Rattle.format.specs.Certify.{Above, Ascending, ascends_from, ascends}
 use Rattle.format.specs.Lookup.{find}
 use Rattle.format.proofs.Laws.Check.Reach.{true≢false}

@@ -5,7 +5,6 @@ use Rattle.format.specs.Layout.{sign_bits, width_of}
 use Rattle.offsets.proofs.Offsets.{leads-ahead, leads-before, leads-behind}
 use Rattle.offsets.proofs.rel_ptr.follow.Goals as goal
 
-
 pub returns-then-bits-back : goal.returns-then-bits-back
 returns-then-bits-back c =
     sym (leads-ahead (sign_bits (width_of c.args.width)) _ _ c.requires.1 (omega arith))

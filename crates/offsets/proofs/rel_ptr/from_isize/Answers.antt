@@ -12,8 +12,8 @@ pub returns-then-z-ltminus2147483648 : goal.returns-then-z-ltminus2147483648
 returns-then-z-ltminus2147483648 c =
     let e = to_z-of_z c.ranges.z in
     elim c.then-z-ltminus2147483648.branch [
-      then-z-ltminus2147483648-via-then-z-ltminus2147483648 w ↦ sym (below-refused 31 16 c.args.z (rw e at w.if-z-ltminus2147483648.true))
-    | then-z-ltminus2147483648-via-else-z-ltminus2147483648+then-z-gt2147483647 w ↦ sym (above-refused 31 16 c.args.z (rw e at w.if-z-gt2147483647.true))
+      | then-z-ltminus2147483648-via-then-z-ltminus2147483648 w ↦ sym (below-refused 31 16 c.args.z (rw e at w.if-z-ltminus2147483648.true))
+      | then-z-ltminus2147483648-via-else-z-ltminus2147483648+then-z-gt2147483647 w ↦ sym (above-refused 31 16 c.args.z (rw e at w.if-z-gt2147483647.true))
     ]
 
 pub returns : goal.returns

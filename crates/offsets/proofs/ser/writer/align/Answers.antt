@@ -7,7 +7,6 @@ use Rattle.format.proofs.Laws.Numbers.Align.{alignment-pos, step_given}
 use Rattle.offsets.proofs.Alignments.{step_past, step-refused}
 use Rattle.offsets.proofs.ser.writer.align.Goals as goal
 
-
 right : (c : goal.Then-is_alignment) → is_alignment c.args.alignment ≡ true
 right c = sym c.is_alignment.ensures ∙ c.if-is_alignment.true
 
