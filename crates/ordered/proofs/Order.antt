@@ -13,7 +13,7 @@ use Rattle.format.specs.declared.Entry.{Entry}
 use Rattle.format.specs.Layout.{Layout, entries_in_range, Limits, nested, pointer, head_size, leaf_size, inner_size, record_size, record_align}
 use Rattle.format.specs.Refusal.{gives}
 use Rattle.format.specs.Bytes.{le_at}
-use Rattle.format.specs.RelPtr.{at, absent}
+use Rattle.format.specs.RelPtr.{absent}
 use Rattle.format.specs.Node.{kind, child, leaf_count, slot}
 use Rattle.format.specs.Check.{accepted, counted, root, recorded, check_root, check_archive}
 use Rattle.format.specs.Entries.{slots, list_child, list_children, list_body, list_at, list}

@@ -1,0 +1,15 @@
+use Prim.Native.Nat.{◌+◌, ◌≤◌}
+use mathlib.Core.Path.{◌≡◌}
+use lib.ListN.{length}
+use Rattle.format.specs.Layout.{layout32, leaf_size, server, nested}
+use Rattle.format.specs.Lookup.{lookup_at}
+use Rattle.format.specs.Readable.{Node}
+use Rattle.lookups.proofs.quick.common_get.Given as goal
+
+abbrev pub invariant-loop-n : goal.invariant-loop-n
+invariant-loop-n l =
+    (l.current.0 + leaf_size layout32 ≤ length l.archive) × Node layout32 server l.archive l.current.0
+    × (lookup_at layout32 l.archive l.key (nested server) l.current.0 ≡ lookup_at layout32 l.archive l.key (nested server) l.initial.current.0)
+
+abbrev pub decreases-loop-n : goal.decreases-loop-n
+decreases-loop-n l = l.current.0
