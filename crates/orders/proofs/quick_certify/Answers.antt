@@ -1,0 +1,11 @@
+-- The limits as they count are the server's at most.
+use Rattle.std.proofs.Common.{◌≤◌, length, arith}
+use Rattle.format.specs.Layout.{limits_of}
+use Rattle.format.proofs.Laws.Numbers.Limits.{within-server}
+use Rattle.orders.proofs.quick_certify.Goals as goal
+
+pub root_keys-requires : goal.root_keys-requires
+root_keys-requires c =
+    let short : length c.args.archive.now ≤ (limits_of c.args.limits).longest = omega (arith, c.counted-most.ensures.0, c.if-archive-most.false) in
+    let e = (within-server (record { longest = c.args.limits.longest; depth = c.args.limits.depth })).longest in
+    (omega (arith, c.if-most-lt3.false), omega (arith, short, e))
