@@ -34,7 +34,7 @@ overflow_add-at c =
     let all = whole (goal.at.overflow_add-at c).After-u64_at-k in
     let key = slot-key _ _ _ _ _ c.u64_at-k.ensures in
     let fits = one-fits _ _ [] _ _ (slots-more _ _ _ _ _ c.loop-i-test.true) c.loop-i.invariant.3 key _ _ _ all _ (sym (runs_none _ _)) _ c.requires.pos_bound in
-    omega (arith, fits c.if-least-k.true c.if-greatest-k.false)
+    omega (arith, fits (omega arith) c.if-greatest-k.false)
 
 -- Where the arms of the lower bound's test meet, the slot is taken, or it is below.
 pub loop-i-preserved : goal.loop-i-preserved
@@ -49,7 +49,7 @@ loop-i-preserved c =
     elim f.branch [
       | then-least-k w ↦
           out-same w.keys-is w.values-is w.at-is
-          ∙ slot-taken L s a.pos.0 o.i _ key a.least a.greatest w.if-least-k.true c.if-greatest-k.false _ _ _ w.visit_key_value_raw.ensures
+          ∙ slot-taken L s a.pos.0 o.i _ key a.least a.greatest (omega (arith, w.if-least-k.true)) c.if-greatest-k.false _ _ _ w.visit_key_value_raw.ensures
       | else-least-k w ↦ out-same w.keys-is w.values-is w.at-is ∙ slot-passed L s a.pos.0 o.i _ key a.least a.greatest w.if-least-k.false _
     ]
     in (
