@@ -5,7 +5,6 @@ use Rattle.format.proofs.Laws.Calls.Accepted.{entries-few, node, certify-refuses
 use Rattle.readers.proofs.Told.{accepted-told, refused-told, root-requires}
 use Rattle.readers.proofs.certify_checked.Goals as goal
 
-
 pub returns-then-count-eq0 : goal.returns-then-count-eq0
 returns-then-count-eq0 c = sym (certify-none _ _ _ _ (accepted-told c.in-Accepted.is (search)) (search))
 

@@ -6,7 +6,6 @@ use Rattle.lookups.proofs.ManyLookups.{many-refuses, many-values-refuses, many-n
 use Rattle.readers.proofs.Told.{accepted-told, refused-told, root-requires}
 use Rattle.readers.proofs.look_up_many.Goals as goal
 
-
 pub returns-then-count-eq0 : goal.returns-then-count-eq0
 returns-then-count-eq0 c =
     let accepted = accepted-told c.in-Accepted.is c.check.ensures in

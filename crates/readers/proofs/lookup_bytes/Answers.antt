@@ -7,7 +7,6 @@ use Rattle.lookups.proofs.Finds.{same_place}
 use Rattle.readers.proofs.Told.{accepted-told, refused-told, root-requires}
 use Rattle.readers.proofs.lookup_bytes.Goals as goal
 
-
 pub returns-in_default : goal.returns-in_default
 returns-in_default c =
     let refused = refused-told c.in_default.is c.check.ensures in

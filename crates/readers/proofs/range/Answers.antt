@@ -7,7 +7,6 @@ use Rattle.format.proofs.Laws.Calls.Certified.{range_none, range-keys-none, rang
 use Rattle.readers.proofs.Told.{accepted-told, refused-told, root-requires}
 use Rattle.readers.proofs.range.Goals as goal
 
-
 pub returns-then-count-eq0 : goal.returns-then-count-eq0
 returns-then-count-eq0 c =
     let certified = accepted-told c.in-Accepted.is c.certify.ensures in record {

@@ -10,7 +10,6 @@ use Rattle.format.specs.Readable.{Down}
 use Rattle.btree.proofs.Back.{down-inside, down_is}
 use Rattle.readers.proofs.root_of.Goals as goal
 
-
 module _ (c : goal.After-uint_at) where
   abbrev L : Layout
   L = layout_of c.args.layout

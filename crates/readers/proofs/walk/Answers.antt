@@ -6,7 +6,6 @@ use Rattle.format.proofs.Laws.Calls.Accepted.{walk_none, walk-keys-none, walk-va
 use Rattle.readers.proofs.Told.{accepted-told, refused-told, root-requires}
 use Rattle.readers.proofs.walk.Goals as goal
 
-
 pub returns-then-count-eq0 : goal.returns-then-count-eq0
 returns-then-count-eq0 c =
     let accepted = accepted-told c.in-Accepted.is c.check.ensures in record {
