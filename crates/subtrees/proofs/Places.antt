@@ -81,3 +81,18 @@ module _ (start end p size align : ℕ) where
     opened-held e =
         let (h, f) = after (guard (ltb 1 depth) 5 (accepted 0 0)) (sym (opened-guards (accepted 0 0)) ∙ ap (λ (x : PtrAnswer). ptr_of x (accepted 0 0)) e) in
         (h, ltb-true 1 depth (guard-inv (ltb 1 depth) _ _ f).0)
+
+-- A place's answer, where its size is read, and then where it is inside.
+module _ {o : PtrAnswer} (start end p align : ℕ) {m n : ℕ} where
+  pub placed-sized : o ≡ placed start end p m align → m ≡ n → o ≡ placed start end p n align
+  placed-sized e k = e ∙ ap (λ (x : ℕ). placed start end p x align) k
+
+  pub placed-inside : o ≡ placed start end p m align → m ≡ n → o ≡ Inside → placed start end p n align ≡ Inside
+  placed-inside e k is = sym (placed-sized e k) ∙ is
+
+module _ {o : PtrAnswer} (start end depth p align : ℕ) {m n : ℕ} where
+  pub opened-sized : o ≡ opened start end depth p m align → m ≡ n → o ≡ opened start end depth p n align
+  opened-sized e k = e ∙ ap (λ (x : ℕ). opened start end depth p x align) k
+
+  pub opened-inside : o ≡ opened start end depth p m align → m ≡ n → o ≡ Inside → opened start end depth p n align ≡ Inside
+  opened-inside e k is = sym (opened-sized e k) ∙ is

@@ -1,24 +1,11 @@
 -- An inner node's answer is the definition's, by its place's answer and by those of its children, from the first to the greater one.
-use Rattle.std.proofs.Common.{ℕ, ◌≡◌, List, sym, ap, ◌∙◌, arith}
-use Rattle.format.specs.Layout.{Layout, node_align}
-use Rattle.subtrees.specs.Subtree.{opened}
-use Rattle.subtrees.specs.declared.archive.PtrAnswer.{PtrAnswer}
-use Rattle.subtrees.specs.declared.archive.PtrAnswer.TheVariants.{Inside}
+use Rattle.std.proofs.Common.{ℕ, ◌≡◌, List, ap, ◌∙◌, arith}
+use Rattle.format.specs.Layout.{Layout}
 use Rattle.subtrees.specs.declared.archive.SubtreeRange.{SubtreeRange}
-use Rattle.subtrees.proofs.Places.{opened-held}
+use Rattle.subtrees.proofs.Places.{opened-held, opened-sized, opened-inside}
 use Rattle.subtrees.proofs.Nodes.{inner-refused, inner-child-refused, inner-entries}
 use Rattle.subtrees.proofs.Within.{ChildrenChecked, checked-none, checked-absent, checked_refused, checked-entries, whole-absent, whole-refused, whole-entries}
 use Rattle.subtrees.proofs.node.+check_inner_node_check_node_rel_ptr.Goals as goal
-
--- The place's answer, where its size is read.
-sized : {o : PtrAnswer} (start end depth p : ℕ) {m n : ℕ} → o ≡ opened start end depth p m node_align → m ≡ n
-    → o ≡ opened start end depth p n node_align
-sized start end depth p e k = e ∙ ap (λ (x : ℕ). opened start end depth p x node_align) k
-
--- The place's answer, where it is inside.
-inside : {o : PtrAnswer} (start end depth p : ℕ) {m n : ℕ} → o ≡ opened start end depth p m node_align → m ≡ n → o ≡ Inside
-    → opened start end depth p n node_align ≡ Inside
-inside start end depth p e k is = sym (sized start end depth p e k) ∙ is
 
 -- What the loop keeps of the children, from the range that the loop begins with.
 begun : (L : Layout) (d : ℕ) (s : List ℕ) (p : ℕ) {r q : SubtreeRange} (i start total : ℕ) → r ≡ q → ChildrenChecked L d s p r.start.0 i start total
@@ -28,12 +15,12 @@ begun L d s p i start total e w = rw (ap (λ (x : SubtreeRange). x.start.0) e) a
 pub check_inner_node-returns-in_default : goal.check_inner_node-returns-in_default
 check_inner_node-returns-in_default t c =
     inner-refused _ _ _ _ _ _ c.requires.2 c.in_default.is c.refused_ptr.ensures
-    (sized _ _ _ _ c.in_subtree-entered.ensures c.inner-inner_size.ensures.0)
+    (opened-sized _ _ _ _ _ c.in_subtree-entered.ensures c.inner-inner_size.ensures.0)
 
 pub check_inner_node-loop-i-init : goal.check_inner_node-loop-i-init
 check_inner_node-loop-i-init t c =
     let e = c.push_subtree_range-inside.ensures in
-    let h = opened-held _ _ _ _ _ _ (inside _ _ _ _ c.in_subtree-entered.ensures c.inner-inner_size.ensures.0 c.in-Inside.is) in
+    let h = opened-held _ _ _ _ _ _ (opened-inside _ _ _ _ _ c.in_subtree-entered.ensures c.inner-inner_size.ensures.0 c.in-Inside.is) in
     (omega arith, ap (λ (r : SubtreeRange). r.end.0) e, omega arith, h.1, checked-none _ _ _ _ _ (rw (ap (λ (r : SubtreeRange). r.start.0) e) h.0.low))
 
 pub check_inner_node-loop-i-preserved-then-is_invalid_at : goal.check_inner_node-loop-i-preserved-then-is_invalid_at
@@ -52,7 +39,7 @@ check_inner_node-returns-in_default-lesser t c =
     checked_refused _ _ _ _ _ _ _ _ w (omega arith) c.child_field-field.ensures.0 c.is_invalid_at.ensures c.if-is_invalid_at.false
     c.loop-i.invariant.1 c.check_node_rel_ptr-lesser.ensures c.in_default-lesser.is
     in
-    inner-child-refused _ _ _ _ _ _ c.requires.2 (inside _ _ _ _ c.in_subtree-entered.ensures c.inner-inner_size.ensures.0 c.in-Inside.is)
+    inner-child-refused _ _ _ _ _ _ c.requires.2 (opened-inside _ _ _ _ _ c.in_subtree-entered.ensures c.inner-inner_size.ensures.0 c.in-Inside.is)
     c.in_default-lesser.is refused
 
 pub check_inner_node-overflow_add-total : goal.check_inner_node-overflow_add-total
@@ -80,7 +67,7 @@ check_inner_node-loop-i-preserved t c =
 pub check_inner_node-returns-then-is_invalid_at-2 : goal.check_inner_node-returns-then-is_invalid_at-2
 check_inner_node-returns-then-is_invalid_at-2 t c =
     let w = begun _ _ _ _ _ _ _ c.push_subtree_range-inside.ensures c.loop-i.invariant.4 in
-    inner-entries _ _ _ _ _ _ c.requires.2 (inside _ _ _ _ c.in_subtree-entered.ensures c.inner-inner_size.ensures.0 c.in-Inside.is)
+    inner-entries _ _ _ _ _ _ c.requires.2 (opened-inside _ _ _ _ _ c.in_subtree-entered.ensures c.inner-inner_size.ensures.0 c.in-Inside.is)
     (whole-absent _ _ _ _ _ _ _ _ w (omega arith) c.child_field-field-2.ensures.0 c.is_invalid_at-2.ensures c.if-is_invalid_at-2.true)
     (omega arith)
 
@@ -91,7 +78,7 @@ check_inner_node-returns-in_default-greater t c =
     whole-refused _ _ _ _ _ _ _ _ w (omega arith) c.child_field-field-2.ensures.0 c.is_invalid_at-2.ensures c.if-is_invalid_at-2.false
     c.loop-i.invariant.1 c.check_node_rel_ptr-greater.ensures c.in_default-greater.is
     in
-    inner-child-refused _ _ _ _ _ _ c.requires.2 (inside _ _ _ _ c.in_subtree-entered.ensures c.inner-inner_size.ensures.0 c.in-Inside.is)
+    inner-child-refused _ _ _ _ _ _ c.requires.2 (opened-inside _ _ _ _ _ c.in_subtree-entered.ensures c.inner-inner_size.ensures.0 c.in-Inside.is)
     c.in_default-greater.is refused
 
 pub check_inner_node-overflow_add-result : goal.check_inner_node-overflow_add-result
@@ -109,5 +96,5 @@ check_inner_node-returns t c =
     whole-entries _ _ _ _ _ _ _ _ w (omega arith) c.child_field-field-2.ensures.0 c.is_invalid_at-2.ensures c.if-is_invalid_at-2.false
     c.loop-i.invariant.1 c.check_node_rel_ptr-greater.ensures c.in-Entries-greater.is
     in
-    inner-entries _ _ _ _ _ _ c.requires.2 (inside _ _ _ _ c.in_subtree-entered.ensures c.inner-inner_size.ensures.0 c.in-Inside.is) whole.is
+    inner-entries _ _ _ _ _ _ c.requires.2 (opened-inside _ _ _ _ _ c.in_subtree-entered.ensures c.inner-inner_size.ensures.0 c.in-Inside.is) whole.is
     (omega arith)
