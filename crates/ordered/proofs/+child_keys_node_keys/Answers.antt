@@ -52,4 +52,4 @@ node_keys-loop-i-preserved t c =
 pub node_keys-returns : goal.node_keys-returns
 node_keys-returns t c =
     λ h. below-keys layout32 _ _ _ _ _ _ c.loop-i.invariant.3 (omega arith)
-    (first-there layout32 _ _ _ c.u32_at.ensures c.if-u32_at-eq1.false)
+    (first-there layout32 _ _ _ c.u32_at.ensures (omega arith))

@@ -57,4 +57,4 @@ node_by-loop-i-preserved t c =
 pub node_by-returns : goal.node_by-returns
 node_by-returns t c =
     λ h. below-keys _ _ _ _ _ _ _ c.loop-i.invariant.4 (omega arith)
-    (first-there _ _ _ _ c.number_at.ensures.0 c.if-number_at-eq1.false)
+    (first-there _ _ _ _ c.number_at.ensures.0 (omega arith))

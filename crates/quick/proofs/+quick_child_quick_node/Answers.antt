@@ -25,7 +25,7 @@ quick_child-returns t c =
     let small = c.u32_at-offset.type_inv in
     let p = a.field - 1 - (0xffff_ffff - c.u32_at-offset.result) in
     let to : LeadsTo layout32 a.archive.now a.field p = leads32 _ _ _ c.u32_at-offset.ensures (omega arith) (omega arith) (omega arith) in
-    inner-child layout32 _ _ _ _ to (omega arith) c.if-p-ne0.false c.if-archive-p-ne1.false refl c.if-end-p-2.false a.depth
+    inner-child layout32 _ _ _ _ to (omega arith) c.if-p-ne0.false (omega arith) refl c.if-end-p-2.false a.depth
     c.requires.4 (c.quick_node-entries.ensures (omega arith))
 
 pub quick_node-overflow_add-total : goal.quick_node-overflow_add-total

@@ -1,0 +1,17 @@
+-- `exports::range::fieldmap_range` meets its contract. Assumes nothing.
+use mathlib.Core.Path.{◌∙◌, sym, ap}
+use native.Mathlib.Omega.{arith}
+use Rattle.format.specs.Layout.{server}
+use Rattle.format.proofs.Laws.Numbers.Limits.{within-server}
+use Rattle.exports.proofs.Numbers.{range-most}
+use Rattle.readers.specs.Answers.{range_of}
+use Rattle.codes.specs.Answers.{range_written, range_matching}
+use Rattle.codes.proofs.Coded.{answers-given, answers-refused, returned, store_given, store-refused}
+use Rattle.exports.proofs.range.fieldmap_range.Goals as goal
+
+
+pub given-requires : goal.given-requires
+unfolding server
+given-requires c =
+    let e = sym c.range.ensures.0 ∙ ap range_of c.in-Matched.is in
+    omega (arith, range-most _ (within-server _) _ _ _ _ _ _ e)

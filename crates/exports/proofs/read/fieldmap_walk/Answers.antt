@@ -1,0 +1,17 @@
+-- `exports::read::fieldmap_walk` meets its contract. Assumes nothing.
+use mathlib.Core.Path.{◌∙◌, sym, ap}
+use native.Mathlib.Omega.{arith}
+use Rattle.format.specs.Layout.{server}
+use Rattle.format.proofs.Laws.Numbers.Limits.{within-server}
+use Rattle.exports.proofs.Numbers.{walk-most}
+use Rattle.readers.specs.Answers.{walk_of}
+use Rattle.codes.specs.Answers.{walk_written, walk_count}
+use Rattle.codes.proofs.Coded.{answers-given, answers-refused, returned, store_given, store-refused}
+use Rattle.exports.proofs.read.fieldmap_walk.Goals as goal
+
+
+pub given-requires : goal.given-requires
+unfolding server
+given-requires c =
+    let e = sym c.walk.ensures.0 ∙ ap walk_of c.in-Walked.is in
+    omega (arith, walk-most _ (within-server _) _ _ _ _ e)

@@ -1,0 +1,16 @@
+-- `exports::write::fieldmap_build` meets its contract. Assumes nothing.
+use Prim.Native.Nat.{ℕ}
+use mathlib.Core.Path.{◌∙◌, sym, ap}
+use native.Mathlib.Omega.{arith}
+use Rattle.format.specs.Layout.{server}
+use Rattle.format.proofs.Laws.Build.Lengths.{build-most}
+use Rattle.builder.specs.Answers.{built_of}
+use Rattle.codes.proofs.Coded.{answers-given, answers-refused, returned}
+use Rattle.exports.proofs.write.fieldmap_build.Goals as goal
+
+
+pub given-requires : goal.given-requires
+unfolding server
+given-requires c =
+    let e = sym c.build.ensures.0 ∙ ap built_of c.in-Built.is in
+    omega (arith, build-most _ _ _ _ _ _ e)
