@@ -1,5 +1,5 @@
 -- Each refusal, or the archive, by what the tests told.
-use Rattle.std.proofs.Common.{◌∙◌, sym}
+use Rattle.std.proofs.Common.{arith, ◌∙◌, sym}
 use borrow.Author.Tests.{not-true, not-false}
 use Rattle.format.specs.Layout.{layout_of}
 use Rattle.builder.proofs.Refusals.{refuse-24, refuse-10, refuse-11, refuse-12, refuse-13, refuse-14, refuse-16, accepted}
@@ -58,7 +58,7 @@ returns-then-not-p c =
     let range = sym c.in_range.ensures ∙ c.if-not-in_range.false in
     let e =
     refuse-16 (layout_of a.layout) a.keys.now a.values.now a.header a.out.now range c.if-n-values.false c.if-n-gt-ENTRIES.false
-    (sym c.ascending.ensures ∙ c.if-not-ascending.false) c.if-header-gt-HEADER.false c.plan_of-p.ensures c.if-out-end.false (not-true _ c.if-not-p.true) in
+    (sym c.ascending.ensures ∙ c.if-not-ascending.false) c.if-header-gt-HEADER.false c.plan_of-p.ensures (omega arith) (not-true _ c.if-not-p.true) in
     record { answer = e.0; bytes = e.1 }
 
 pub returns : goal.returns
@@ -67,6 +67,6 @@ returns c =
     let range = sym c.in_range.ensures ∙ c.if-not-in_range.false in
     let e =
     accepted (layout_of a.layout) a.keys.now a.values.now a.header a.out.now range c.if-n-values.false c.if-n-gt-ENTRIES.false
-    (sym c.ascending.ensures ∙ c.if-not-ascending.false) c.if-header-gt-HEADER.false c.plan_of-p.ensures c.if-out-end.false (not-false _ c.if-not-p.false)
+    (sym c.ascending.ensures ∙ c.if-not-ascending.false) c.if-header-gt-HEADER.false c.plan_of-p.ensures (omega arith) (not-false _ c.if-not-p.false)
     _ c.put_archive.ensures in
     record { answer = e.0; bytes = e.1 }

@@ -1,5 +1,5 @@
 -- Each refusal, or the length, by what the tests told.
-use Rattle.std.proofs.Common.{◌∙◌, sym}
+use Rattle.std.proofs.Common.{arith, ◌∙◌, sym}
 use Rattle.format.specs.Layout.{layout_of}
 use Rattle.builder.proofs.Refusals.{length-24, length-11, length-13, length-16, length-given}
 use Rattle.builder.proofs.build.build_length.Goals as goal
@@ -11,19 +11,19 @@ returns-then-not-in_range c =
 pub returns-then-entries-gt-ENTRIES : goal.returns-then-entries-gt-ENTRIES
 returns-then-entries-gt-ENTRIES c =
     length-11 (layout_of c.args.layout) c.args.entries c.args.header (sym c.in_range.ensures ∙ c.if-not-in_range.false)
-    c.if-entries-gt-ENTRIES.true
+    (omega arith)
 
 pub returns-then-header-gt-HEADER : goal.returns-then-header-gt-HEADER
 returns-then-header-gt-HEADER c =
     length-13 (layout_of c.args.layout) c.args.entries c.args.header (sym c.in_range.ensures ∙ c.if-not-in_range.false)
-    c.if-entries-gt-ENTRIES.false c.if-header-gt-HEADER.true
+    (omega arith) c.if-header-gt-HEADER.true
 
 pub returns-then-p : goal.returns-then-p
 returns-then-p c =
     length-given _ _ _ (sym c.in_range.ensures ∙ c.if-not-in_range.false)
-    c.if-entries-gt-ENTRIES.false c.if-header-gt-HEADER.false c.plan_of-p.ensures c.if-p.true
+    (omega arith) c.if-header-gt-HEADER.false c.plan_of-p.ensures c.if-p.true
 
 pub returns : goal.returns
 returns c =
     length-16 _ _ _ (sym c.in_range.ensures ∙ c.if-not-in_range.false)
-    c.if-entries-gt-ENTRIES.false c.if-header-gt-HEADER.false c.plan_of-p.ensures c.if-p.false
+    (omega arith) c.if-header-gt-HEADER.false c.plan_of-p.ensures c.if-p.false

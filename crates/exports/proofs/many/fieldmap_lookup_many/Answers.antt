@@ -13,4 +13,4 @@ use Rattle.exports.proofs.many.fieldmap_lookup_many.Goals as goal
 pub given-requires : goal.given-requires
 given-requires c =
     let room : length c.args.keys.now * 8 < 2 ^ 63 = search in
-    omega (arith, room, many-most _ _ _ _ _ _ (sym c.look_up_many.ensures.0 ∙ ap many_of c.in-Found.is))
+    omega (arith, room, many-most _ _ _ _ _ _ (sym c.look_up_many.ensures.answer ∙ ap many_of c.in-Found.is))

@@ -14,5 +14,5 @@ use Rattle.exports.proofs.range.fieldmap_column.Goals as goal
 pub given-requires : goal.given-requires
 unfolding server
 given-requires c =
-    let e = sym c.column.ensures.0 ∙ ap range_of c.in-Matched.is in
+    let e = sym c.column.ensures.answer ∙ ap range_of c.in-Matched.is in
     omega (arith, column-most _ (within-server _) _ _ _ _ _ _ _ _ _ e)

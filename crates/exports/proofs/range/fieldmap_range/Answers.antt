@@ -13,5 +13,5 @@ use Rattle.exports.proofs.range.fieldmap_range.Goals as goal
 pub given-requires : goal.given-requires
 unfolding server
 given-requires c =
-    let e = sym c.range.ensures.0 ∙ ap range_of c.in-Matched.is in
+    let e = sym c.range.ensures.answer ∙ ap range_of c.in-Matched.is in
     omega (arith, range-most _ (within-server _) _ _ _ _ _ _ e)

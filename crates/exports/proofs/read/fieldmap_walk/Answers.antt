@@ -13,5 +13,5 @@ use Rattle.exports.proofs.read.fieldmap_walk.Goals as goal
 pub given-requires : goal.given-requires
 unfolding server
 given-requires c =
-    let e = sym c.walk.ensures.0 ∙ ap walk_of c.in-Walked.is in
+    let e = sym c.walk.ensures.answer ∙ ap walk_of c.in-Walked.is in
     omega (arith, walk-most _ (within-server _) _ _ _ _ e)

@@ -12,5 +12,5 @@ use Rattle.exports.proofs.write.fieldmap_build.Goals as goal
 pub given-requires : goal.given-requires
 unfolding server
 given-requires c =
-    let e = sym c.build.ensures.0 ∙ ap built_of c.in-Built.is in
+    let e = sym c.build.ensures.answer ∙ ap built_of c.in-Built.is in
     omega (arith, build-most _ _ _ _ _ _ e)
