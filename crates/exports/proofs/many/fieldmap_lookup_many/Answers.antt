@@ -1,14 +1,12 @@
 -- `exports::many::fieldmap_lookup_many` meets its contract. Assumes nothing.
 -- A list of numbers takes less than 2^63 bytes, so there are fewer keys.
 use mathlib.Core.Path.{◌∙◌, sym, ap}
-use Prim.Native.Nat.{ℕ, ◌*◌, ◌<◌, ◌^◌}
+use Prim.Native.Nat.{◌*◌, ◌<◌, ◌^◌}
 use native.Mathlib.Omega.{arith}
 use lib.ListN.{length}
-use Rattle.codes.proofs.Coded.{answers-given, answers-refused, returned}
 use Rattle.lookups.proofs.ManyLookups.{many-most}
 use Rattle.readers.specs.Answers.{many_of}
 use Rattle.exports.proofs.many.fieldmap_lookup_many.Goals as goal
-
 
 pub given-requires : goal.given-requires
 given-requires c =

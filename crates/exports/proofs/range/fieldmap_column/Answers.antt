@@ -1,15 +1,11 @@
 -- `exports::range::fieldmap_column` meets its contract. Assumes nothing.
-use mir.Facts.{to_z-of_z}
 use mathlib.Core.Path.{◌∙◌, sym, ap}
 use native.Mathlib.Omega.{arith}
 use Rattle.format.specs.Layout.{server}
 use Rattle.format.proofs.Laws.Numbers.Limits.{within-server}
 use Rattle.exports.proofs.Numbers.{column-most}
 use Rattle.readers.specs.Answers.{range_of}
-use Rattle.codes.specs.Answers.{range_written, range_matching}
-use Rattle.codes.proofs.Coded.{answers-given, answers-refused, returned, store_given, store-refused}
 use Rattle.exports.proofs.range.fieldmap_column.Goals as goal
-
 
 pub given-requires : goal.given-requires
 unfolding server

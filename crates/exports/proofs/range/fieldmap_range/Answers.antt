@@ -5,10 +5,7 @@ use Rattle.format.specs.Layout.{server}
 use Rattle.format.proofs.Laws.Numbers.Limits.{within-server}
 use Rattle.exports.proofs.Numbers.{range-most}
 use Rattle.readers.specs.Answers.{range_of}
-use Rattle.codes.specs.Answers.{range_written, range_matching}
-use Rattle.codes.proofs.Coded.{answers-given, answers-refused, returned, store_given, store-refused}
 use Rattle.exports.proofs.range.fieldmap_range.Goals as goal
-
 
 pub given-requires : goal.given-requires
 unfolding server

@@ -1,14 +1,10 @@
 -- `exports::read::fieldmap_check` meets its contract. Assumes nothing.
-use Prim.Native.Nat.{ℕ}
-use mathlib.Core.Path.{◌∙◌, sym, ap}
+use mathlib.Core.Path.{◌∙◌, sym}
 use native.Mathlib.Omega.{arith}
 use Rattle.format.specs.Layout.{server}
 use Rattle.format.proofs.Laws.Numbers.Limits.{within-server}
 use Rattle.exports.proofs.Numbers.{count_most}
-use Rattle.codes.specs.Answers.{coded}
-use Rattle.codes.proofs.Coded.{told-counted, returned}
 use Rattle.exports.proofs.read.fieldmap_check.Goals as goal
-
 
 pub counted-requires : goal.counted-requires
 unfolding server

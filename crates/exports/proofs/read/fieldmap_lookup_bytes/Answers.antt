@@ -1,11 +1,9 @@
 -- `exports::read::fieldmap_lookup_bytes` meets its contract. Assumes nothing.
-use mathlib.Core.Path.{refl, ◌∙◌, sym, ap}
+use mathlib.Core.Path.{◌∙◌, sym, ap}
 use Rattle.readers.specs.Answers.{lookup_of}
-use Rattle.codes.specs.Answers.{part_length, entry_position}
-use Rattle.codes.proofs.Coded.{answers-given, answers-refused, returned, no_bytes}
-use Rattle.codes.proofs.Coded.{found-stored, nothing_stored, refused-stored, found_part, nothing-part, refused-part}
+use Rattle.codes.proofs.Coded.{returned, no_bytes}
+use Rattle.codes.proofs.Coded.{found_part, nothing-part, refused-part}
 use Rattle.exports.proofs.read.fieldmap_lookup_bytes.Goals as goal
-
 
 pub returns-in-Refused-clause-part : goal.returns-in-Refused-clause-part
 returns-in-Refused-clause-part c =

@@ -5,10 +5,7 @@ use Rattle.format.specs.Layout.{server}
 use Rattle.format.proofs.Laws.Numbers.Limits.{within-server}
 use Rattle.exports.proofs.Numbers.{walk-most}
 use Rattle.readers.specs.Answers.{walk_of}
-use Rattle.codes.specs.Answers.{walk_written, walk_count}
-use Rattle.codes.proofs.Coded.{answers-given, answers-refused, returned, store_given, store-refused}
 use Rattle.exports.proofs.read.fieldmap_walk.Goals as goal
-
 
 pub given-requires : goal.given-requires
 unfolding server

@@ -1,13 +1,10 @@
 -- `exports::write::fieldmap_build_length` meets its contract. Assumes nothing.
-use Prim.Native.Nat.{ℕ}
 use mathlib.Core.Path.{◌∙◌, sym, ap}
 use native.Mathlib.Omega.{arith}
 use Rattle.format.specs.Layout.{server}
 use Rattle.format.proofs.Laws.Build.Lengths.{length_most}
 use Rattle.builder.specs.Answers.{built_of}
-use Rattle.codes.proofs.Coded.{code-given, code-refused, told-given, told-refused, returned}
 use Rattle.exports.proofs.write.fieldmap_build_length.Goals as goal
-
 
 pub given-requires : goal.given-requires
 unfolding server
