@@ -1,3 +1,2 @@
--- What the proofs of several functions use.
-mod Signed
+-- What the proof of the checksum uses.
 mod Sums

@@ -2,71 +2,95 @@
 use crate::builds::blank;
 use crate::input::{
     next_bound, next_i8, next_layout, next_limits, next_packing, next_u8, next_u32, next_u64,
+    read_full,
 };
 use crate::output::{
     print, print_checked, print_entries, print_line, print_number, print_pair, print_refused,
 };
 use fields::primitive::u64_at;
 use format::{Layout, Limits};
-use libc::STDIN_FILENO;
 use readers::{LookupAnswer, RangeAnswer, WalkAnswer};
+use std::io;
+use std::io::Read;
 
 // The lent lists differ in length, here and in the ranges: the shorter has 64 places.
-fn replay_walk(layout: Layout, limits: Limits, archive: &[u8]) {
+fn replay_walk(rt: &impl Print, layout: Layout, limits: Limits, archive: &[u8]) -> io::Result<()> {
     let mut keys = [0u64; 80];
     let mut values = [0u64; 64];
-    print(b"walk ");
+    print(rt, "walk ")?;
     match fieldmap::walk(layout, limits, archive, &mut keys, &mut values) {
-        WalkAnswer::Refused(why) => print_refused(why),
+        WalkAnswer::Refused(why) => print_refused(rt, why),
         WalkAnswer::Walked(written, count) => {
-            print_pair(written as u64, b" of ", count as u64);
-            print_entries(&keys, &values, written);
+            print_pair(rt, written as u64, " of ", count as u64)?;
+            print_entries(rt, &keys, &values, written)
         }
     }
 }
 
 // The second form of lookup: the part's length, and the number that its eight bytes are.
-fn replay_bytes(layout: Layout, limits: Limits, archive: &[u8], key: u64) {
+fn replay_bytes(
+    rt: &impl Print,
+    layout: Layout,
+    limits: Limits,
+    archive: &[u8],
+    key: u64,
+) -> io::Result<()> {
     let part = fieldmap::lookup_bytes(layout, limits, archive, key);
-    print(b"bytes ");
+    print(rt, "bytes ")?;
     if part.len() < 8 {
-        print_line(part.len() as u64);
-        return;
+        return print_line(rt, part.len() as u64);
     }
-    print_pair(part.len() as u64, b" ", u64_at(part, 0));
+    print_pair(rt, part.len() as u64, " ", u64_at(part, 0))
 }
 
-fn replay_lookup(layout: Layout, limits: Limits, archive: &[u8]) {
-    let key = next_u64();
-    print(b"lookup ");
+fn replay_lookup<R: Read>(
+    rt: &impl Print,
+    input: &mut R,
+    layout: Layout,
+    limits: Limits,
+    archive: &[u8],
+) -> io::Result<()> {
+    let key = next_u64(input)?;
+    print(rt, "lookup ")?;
     match fieldmap::lookup(layout, limits, archive, key) {
-        LookupAnswer::Refused(why) => print_refused(why),
-        LookupAnswer::Nothing => print(b"none\n"),
+        LookupAnswer::Refused(why) => print_refused(rt, why)?,
+        LookupAnswer::Nothing => print(rt, "none\n")?,
         LookupAnswer::Entry(e) => {
-            print_number(e.key);
-            print(b" ");
-            print_pair(e.value, b" ", e.position.0 as u64);
+            print_number(rt, e.key)?;
+            print(rt, " ")?;
+            print_pair(rt, e.value, " ", e.position.0 as u64)?;
         }
     }
-    replay_bytes(layout, limits, archive, key);
+    replay_bytes(rt, layout, limits, archive, key)
 }
 
-fn print_range(answer: RangeAnswer, keys: &[u64], values: &[u64]) {
+fn print_range(
+    rt: &impl Print,
+    answer: RangeAnswer,
+    keys: &[u64],
+    values: &[u64],
+) -> io::Result<()> {
     match answer {
-        RangeAnswer::Refused(why) => print_refused(why),
+        RangeAnswer::Refused(why) => print_refused(rt, why),
         RangeAnswer::Matched(written, matching) => {
-            print_pair(written as u64, b" of ", matching as u64);
-            print_entries(keys, values, written);
+            print_pair(rt, written as u64, " of ", matching as u64)?;
+            print_entries(rt, keys, values, written)
         }
     }
 }
 
-fn replay_range(layout: Layout, limits: Limits, archive: &[u8]) {
-    let lower = next_bound();
-    let upper = next_bound();
+fn replay_range<R: Read>(
+    rt: &impl Print,
+    input: &mut R,
+    layout: Layout,
+    limits: Limits,
+    archive: &[u8],
+) -> io::Result<()> {
+    let lower = next_bound(input)?;
+    let upper = next_bound(input)?;
     let mut keys = [0u64; 64];
     let mut values = [0u64; 80];
-    print(b"range ");
+    print(rt, "range ")?;
     let answer = fieldmap::range(
         layout,
         limits,
@@ -76,18 +100,24 @@ fn replay_range(layout: Layout, limits: Limits, archive: &[u8]) {
         &mut keys,
         &mut values,
     );
-    print_range(answer, &keys, &values);
+    print_range(rt, answer, &keys, &values)
 }
 
-fn replay_column(layout: Layout, limits: Limits, archive: &[u8]) {
-    let packing = next_packing();
-    let examination = next_u32();
-    let eye = next_u8();
-    let a = next_i8();
-    let b = next_i8();
+fn replay_column<R: Read>(
+    rt: &impl Print,
+    input: &mut R,
+    layout: Layout,
+    limits: Limits,
+    archive: &[u8],
+) -> io::Result<()> {
+    let packing = next_packing(input)?;
+    let examination = next_u32(input)?;
+    let eye = next_u8(input)?;
+    let a = next_i8(input)?;
+    let b = next_i8(input)?;
     let mut keys = [0u64; 80];
     let mut values = [0u64; 64];
-    print(b"column ");
+    print(rt, "column ")?;
     let answer = fieldmap::column(
         layout,
         limits,
@@ -100,75 +130,110 @@ fn replay_column(layout: Layout, limits: Limits, archive: &[u8]) {
         &mut keys,
         &mut values,
     );
-    print_range(answer, &keys, &values);
+    print_range(rt, answer, &keys, &values)
 }
 
-fn replay_lookups(layout: Layout, limits: Limits, archive: &[u8]) {
-    let mut left = next_u32();
+fn replay_lookups<R: Read>(
+    rt: &impl Print,
+    input: &mut R,
+    layout: Layout,
+    limits: Limits,
+    archive: &[u8],
+) -> io::Result<()> {
+    let mut left = next_u32(input)?;
     while left > 0 {
-        replay_lookup(layout, limits, archive);
+        replay_lookup(rt, input, layout, limits, archive)?;
         left -= 1;
     }
+    Ok(())
 }
 
-fn replay_ranges(layout: Layout, limits: Limits, archive: &[u8]) {
-    let mut left = next_u32();
+fn replay_ranges<R: Read>(
+    rt: &impl Print,
+    input: &mut R,
+    layout: Layout,
+    limits: Limits,
+    archive: &[u8],
+) -> io::Result<()> {
+    let mut left = next_u32(input)?;
     while left > 0 {
-        replay_range(layout, limits, archive);
+        replay_range(rt, input, layout, limits, archive)?;
         left -= 1;
     }
+    Ok(())
 }
 
-fn replay_columns(layout: Layout, limits: Limits, archive: &[u8]) {
-    let mut left = next_u32();
+fn replay_columns<R: Read>(
+    rt: &impl Print,
+    input: &mut R,
+    layout: Layout,
+    limits: Limits,
+    archive: &[u8],
+) -> io::Result<()> {
+    let mut left = next_u32(input)?;
     while left > 0 {
-        replay_column(layout, limits, archive);
+        replay_column(rt, input, layout, limits, archive)?;
         left -= 1;
     }
+    Ok(())
 }
 
-fn replay_archive(layout: Layout, limits: Limits, archive: &[u8]) {
-    print(b"check ");
-    print_checked(fieldmap::check(layout, limits, archive));
-    print(b"certify ");
-    print_checked(fieldmap::certify(layout, limits, archive));
-    replay_walk(layout, limits, archive);
-    replay_lookups(layout, limits, archive);
-    replay_ranges(layout, limits, archive);
-    replay_columns(layout, limits, archive);
+fn replay_archive<R: Read>(
+    rt: &impl Print,
+    input: &mut R,
+    layout: Layout,
+    limits: Limits,
+    archive: &[u8],
+) -> io::Result<()> {
+    print(rt, "check ")?;
+    print_checked(rt, fieldmap::check(layout, limits, archive))?;
+    print(rt, "certify ")?;
+    print_checked(rt, fieldmap::certify(layout, limits, archive))?;
+    replay_walk(rt, layout, limits, archive)?;
+    replay_lookups(rt, input, layout, limits, archive)?;
+    replay_ranges(rt, input, layout, limits, archive)?;
+    replay_columns(rt, input, layout, limits, archive)
 }
 
 // Fills the list with the next archive.
-fn replay_next(layout: Layout, limits: Limits, archive: &mut [u8]) {
-    io::read_full(STDIN_FILENO, archive);
-    replay_archive(layout, limits, archive);
+fn replay_next<R: Read>(
+    rt: &impl Print,
+    input: &mut R,
+    layout: Layout,
+    limits: Limits,
+    archive: &mut [u8],
+) -> io::Result<()> {
+    read_full(input, archive)?;
+    replay_archive(rt, input, layout, limits, archive)
 }
 
 // The next archive, read into the front of the buffer; nothing where it is too long for it.
-pub fn replay_case(buffer: &mut [u8]) {
-    let layout = next_layout();
-    let limits = next_limits();
-    let length = next_u32() as usize;
+pub fn replay_case<R: Read>(rt: &impl Print, input: &mut R, buffer: &mut [u8]) -> io::Result<()> {
+    let layout = next_layout(input)?;
+    let limits = next_limits(input)?;
+    let length = next_u32(input)? as usize;
     if length <= buffer.len() {
-        replay_next(layout, limits, &mut buffer[..length]);
+        replay_next(rt, input, layout, limits, &mut buffer[..length])?;
     }
+    Ok(())
 }
 
-fn check_common(bytes: &[u8]) {
-    print_checked(fieldmap::check(Layout::COMMON, Limits::SERVER, bytes));
+fn check_common(rt: &impl Print, bytes: &[u8]) -> io::Result<()> {
+    print_checked(rt, fieldmap::check(Layout::COMMON, Limits::SERVER, bytes))
 }
 
-fn check_longest(bytes: &[u8]) {
-    print(b"too long ");
-    check_common(bytes);
+fn check_longest(rt: &impl Print, bytes: &[u8]) -> io::Result<()> {
+    print(rt, "too long ")?;
+    check_common(rt, bytes)?;
     if 1048576 <= bytes.len() {
-        print(b"longest ");
-        check_common(&bytes[..1048576]);
+        print(rt, "longest ")?;
+        check_common(rt, &bytes[..1048576])?;
     }
+    Ok(())
 }
 
 // The shortest archive that is too long, and the longest that is not. The input does not have them.
-pub fn replay_longest() {
+pub fn replay_longest(rt: &impl Print) -> io::Result<()> {
     let bytes = blank();
-    check_longest(&bytes);
+    check_longest(rt, &bytes)
 }

@@ -27,43 +27,52 @@ mod parts;
 
 use input::next_u8;
 use output::{print, print_line};
+use std::io;
+use std::io::Read;
 
 // The question of a kind, and whether there is one.
-fn replay_one(kind: u8, buffer: &mut [u8]) -> bool {
+fn replay_one<R: Read>(
+    rt: &impl Print,
+    input: &mut R,
+    kind: u8,
+    buffer: &mut [u8],
+) -> io::Result<bool> {
     match kind {
-        1 => archives::replay_case(buffer),
-        2 => builds::replay_build(),
-        3 => parts::replay_distance(),
-        4 => parts::replay_offset(),
-        5 => parts::replay_absent(),
-        6 => parts::replay_align(),
-        7 => parts::replay_pack(),
-        8 => parts::replay_unpack(),
-        9 => parts::replay_value(),
+        1 => archives::replay_case(rt, input, buffer)?,
+        2 => builds::replay_build(rt, input)?,
+        3 => parts::replay_distance(rt, input)?,
+        4 => parts::replay_offset(rt, input)?,
+        5 => parts::replay_absent(rt, input)?,
+        6 => parts::replay_align(rt, input)?,
+        7 => parts::replay_pack(rt, input)?,
+        8 => parts::replay_unpack(rt, input)?,
+        9 => parts::replay_value(rt, input)?,
         _ => {
-            return false;
+            return Ok(false);
         }
     }
-    true
+    Ok(true)
 }
 
 // Nothing says that the input ends, so the questions are counted up to a number that no run reaches. How many there were.
-fn replay_all(buffer: &mut [u8]) -> u64 {
+fn replay_all<R: Read>(rt: &impl Print, input: &mut R, buffer: &mut [u8]) -> io::Result<u64> {
     let mut questions = 0;
     while questions < u64::MAX {
-        if !replay_one(next_u8(), buffer) {
-            return questions;
+        let kind = next_u8(input)?;
+        if !replay_one(rt, input, kind, buffer)? {
+            return Ok(questions);
         }
         questions += 1;
     }
-    questions
+    Ok(questions)
 }
 
 // The last line says how many questions there were, so that none can be lost unseen.
-fn main() {
-    archives::replay_longest();
-    let mut buffer = io::large_buffer();
-    let questions = replay_all(&mut buffer);
-    print(b"questions ");
-    print_line(questions);
+fn main(rt: HostRuntime) -> io::Result<()> {
+    archives::replay_longest(&rt)?;
+    let mut buffer = [0u8; 65536];
+    let mut input = rt.stdin();
+    let questions = replay_all(&rt, &mut input, &mut buffer)?;
+    print(&rt, "questions ")?;
+    print_line(&rt, questions)
 }

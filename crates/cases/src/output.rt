@@ -2,20 +2,19 @@
 ghost use Rattle.std.specs.Prelude.{◌≡◌, unsigned_abs};
 
 use format::{CheckAnswer, Refusal};
-use libc::STDOUT_FILENO;
+use std::io;
 
-pub fn print(text: &[u8]) {
-    io::write_all(STDOUT_FILENO, text);
+pub fn print(rt: &impl Print, text: &str) -> io::Result<()> {
+    rt.print(text)
 }
 
-pub fn print_number(number: u64) {
-    io::print_decimal(STDOUT_FILENO, number);
+pub fn print_number(rt: &impl Print, number: u64) -> io::Result<()> {
+    rt.print(number)
 }
 
 // A number and the end of the line.
-pub fn print_line(number: u64) {
-    print_number(number);
-    print(b"\n");
+pub fn print_line(rt: &impl Print, number: u64) -> io::Result<()> {
+    rt.println(number)
 }
 
 // A number without its sign.
@@ -28,43 +27,49 @@ fn magnitude(z: i64) -> u64
     z as u64
 }
 
-pub fn print_signed(number: i64) {
+pub fn print_signed(rt: &impl Print, number: i64) -> io::Result<()> {
     if number < 0 {
-        print(b"-");
+        print(rt, "-")?;
     }
-    print_number(magnitude(number));
+    print_number(rt, magnitude(number))
 }
 
-pub fn print_refused(why: Refusal) {
-    print(b"refused ");
-    print_line(fieldmap::refusal_number(why));
+pub fn print_refused(rt: &impl Print, why: Refusal) -> io::Result<()> {
+    print(rt, "refused ")?;
+    print_line(rt, fieldmap::refusal_number(why))
 }
 
-pub fn print_checked(answer: CheckAnswer) {
+pub fn print_checked(rt: &impl Print, answer: CheckAnswer) -> io::Result<()> {
     match answer {
-        CheckAnswer::Refused(why) => print_refused(why),
-        CheckAnswer::Accepted(count) => print_line(count as u64),
+        CheckAnswer::Refused(why) => print_refused(rt, why),
+        CheckAnswer::Accepted(count) => print_line(rt, count as u64),
     }
 }
 
 // Two numbers, a word between them, and the end of the line.
-pub fn print_pair(first: u64, word: &[u8], second: u64) {
-    print_number(first);
-    print(word);
-    print_line(second);
+pub fn print_pair(rt: &impl Print, first: u64, word: &str, second: u64) -> io::Result<()> {
+    print_number(rt, first)?;
+    print(rt, word)?;
+    print_line(rt, second)
 }
 
 // The first `count` entries.
-pub fn print_entries(keys: &[u64], values: &[u64], count: usize) {
+pub fn print_entries(
+    rt: &impl Print,
+    keys: &[u64],
+    values: &[u64],
+    count: usize,
+) -> io::Result<()> {
     let mut i = 0;
     while i < count {
         if keys.len() <= i {
-            return;
+            return Ok(());
         }
         if values.len() <= i {
-            return;
+            return Ok(());
         }
-        print_pair(keys[i], b" ", values[i]);
+        print_pair(rt, keys[i], " ", values[i])?;
         i += 1;
     }
+    Ok(())
 }

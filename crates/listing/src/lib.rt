@@ -2,12 +2,15 @@
 // entry of the walk, key and value on a line. More than 65,536 bytes are refused. The text is `printed` of specs/Listing.antt.
 #![tactic(auto)]
 
-ghost use Rattle.std.specs.Prelude.{◌≡◌, [], ◌∷◌, ◌++◌, ◌+◌, ◌*◌, ◌≤◌, length, take, drop};
+ghost use Rattle.std.specs.Prelude.{◌≡◌, [], ◌∷◌, ◌++◌, ◌+◌, ◌*◌, ◌≤◌, length, take, drop, IfOk, OnOk, IfSome};
+ghost use Rattle.std.specs.Io.KnownBytes.{Appends};
 ghost use Rattle.text.specs.Decimal.{decimal};
 ghost use Rattle.listing.specs.Listing.{title, title_line, entry_line, first_lines, listing, printed};
 
 use format::{CheckAnswer, Layout, Limits};
 use readers::WalkAnswer;
+use std::io;
+use std::io::{Read, Write};
 use text::{put, put_decimal};
 
 // The longest input that is listed, in bytes.
@@ -133,12 +136,31 @@ fn put_text(text: &mut [u8; LONGEST_TEXT], input: &[u8]) -> usize
     }
 }
 
+// Reads until the buffer is full or the input ends. How many bytes it put at the buffer's front.
+fn read_full<R: Read>(input: &mut R, buffer: &mut [u8]) -> io::Result<usize>
+    ensures bound { IfOk result (λ n. n ≤ length buffer.new) }
+    ensures bytes { IfOk result (λ n. IfSome (R.remaining input.old) (λ xs. take n buffer.new ≡ take (length buffer.old) xs)) }
+{
+    let mut done = 0;
+    while done < buffer.len() {
+        let n = input.read(&mut buffer[done..])?;
+        if n == 0 {
+            break;
+        }
+        done += n;
+    }
+    Ok(done)
+}
+
 // Reads an input and writes its text. One byte more than the longest input is read, since the text depends on no byte behind that one
-// (specs/Laws.antt). A read that fails counts as the end of the input.
-pub fn list(input: i32, output: i32) {
+// (specs/Laws.antt).
+pub fn list<R: Read, W: Write>(input: &mut R, output: &mut W) -> io::Result<()>
+    ensures { OnOk result (IfSome (R.remaining input.old)
+        (λ bytes. Appends (W.contents output.old) (W.contents output.new) (printed bytes))) }
+{
     let mut buffer = [0u8; LONGEST_INPUT + 1];
     let mut text = [0u8; LONGEST_TEXT];
-    let read = io::read_full(input, &mut buffer);
+    let read = read_full(input, &mut buffer)?;
     let length = put_text(&mut text, &buffer[..read]);
-    io::write_all(output, &text[..length]);
+    output.write_all(&text[..length])
 }
