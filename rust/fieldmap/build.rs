@@ -31,7 +31,7 @@ fn main() {
 fn warn(library: &Path, why: &str) {
     let path = library.display();
     println!("cargo::warning={path} {why}: cargo check and cargo doc work, programs and tests do not link.");
-    println!("cargo::warning=`rt staticlib exports`, in the repository's folder, writes target/staticlib/libexports.a.");
+    println!("cargo::warning=`tools/build exports`, in the repository's folder, writes target/staticlib/libexports.a.");
     println!(
         "cargo::warning=The environment variable FIELDMAP_LIB names another folder that holds it."
     );
