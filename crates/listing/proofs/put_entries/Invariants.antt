@@ -1,3 +1,4 @@
+-- The lines of the entries so far stand behind what was there, and the bytes behind them stay.
 use Prim.Native.Nat.{◌+◌, ◌-◌, ◌*◌, ◌≤◌}
 use mathlib.Core.Path.{◌≡◌}
 use mathlib.Core.List.{◌++◌}
