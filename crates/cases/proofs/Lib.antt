@@ -1,2 +1,3 @@
--- What the proof of the checksum uses.
+-- What the proofs of several functions use.
+mod Signed
 mod Sums
