@@ -68,8 +68,11 @@ module _ (L : Layout) (s : List ℕ) where
           let low = d.lower in
           record { node = d.node; leads = ap (target L s) at_f ∙ d.leads; lower = omega arith }
 
-      pub field-inside : o - x ≤ f - 1
-      field-inside = let inside = down-inside f x o down e l all in omega arith
+      pub field-inside : o - x < f
+      field-inside = down-inside f x o down e l all
+
+      pub field-before : o - x ≤ f - 1
+      field-before = let inside = field-inside in omega arith
 
       pub field-there : At (record { 0 = f - 1 - (o - x) }) ≡ child_at L s (child L p i)
       field-there = rw (← at_f) (sym (child-there L s f _ present (down_is f x o down e l all)))
