@@ -1,5 +1,6 @@
 -- The magnitude of a signed number of the machine. Assumes nothing.
-use Rattle.std.proofs.Common.{◌≡◌, suc, ◌+◌, ◌<◌, true, false, T, ℤ, pos, negsuc, ◌-ℤ◌, nat_abs, sym, refl, ap, ◌∙◌, subst, true≢false, add-one, arith, to_z-of_z, w64, Fits, SFits, to_z, of_z, ltb-true, le-ltb}
+use Rattle.std.proofs.Common.{◌≡◌, suc, ◌+◌, ◌<◌, true, false, T, ℤ, pos, negsuc, ◌-ℤ◌, nat_abs, sym, refl, ap, ◌∙◌, subst, true≢false, add-one}
+use Rattle.std.proofs.Common.{arith, to_z-of_z, w64, Fits, SFits, to_z, of_z, ltb-true, le-ltb}
 use borrow.Author.Rules.{sfits_of}
 use lib.Signed.{mag, non_neg, lt_z}
 

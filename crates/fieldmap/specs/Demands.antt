@@ -40,7 +40,8 @@ use Rattle.format.proofs.Laws.Calls.Accepted.{certify-refuses, lookup-refuses, b
 use Rattle.format.proofs.Laws.Calls.Accepted.{walk-values-refuses, is-recorded, is-archive}
 use Rattle.format.proofs.Laws.Calls.Accepted.{lookup-accepted, bytes-accepted, place-accepted, walk-accepted, walk-keys-accepted, walk-values-accepted}
 use Rattle.format.proofs.Laws.Calls.Certified.{range-refuses, range-keys-refuses, range-values-refuses, column-uncertified}
-use Rattle.format.proofs.Laws.Calls.Certified.{certified-exactly, is-certified, certified-accepts, range-certified, range-keys-certified, range-values-certified}
+use Rattle.format.proofs.Laws.Calls.Certified.{certified-exactly, is-certified, certified-accepts, range-certified, range-keys-certified}
+use Rattle.format.proofs.Laws.Calls.Certified.{range-values-certified}
 use Rattle.format.proofs.Laws.Range.Iter.{range-yields}
 use Rattle.format.proofs.Laws.Numbers.Key.{pack-unpack}
 use Rattle.format.proofs.Laws.Build.Taken.{both, taken, layout-takes, taken-gives, build-output, build-archive}

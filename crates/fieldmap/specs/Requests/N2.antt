@@ -10,7 +10,7 @@ use Rattle.format.specs.Range.{key_meets_lower, key_meets_upper, select, crosses
 use Rattle.format.proofs.Laws.Range.Ends.{ends-hold, excluded-at-0-below, excluded-at-0-above, open-below, open_above, crossed-nothing, range-ends}
 use Rattle.format.proofs.Laws.Range.Ends.{excluded-at-the-largest-below, excluded-at-the-largest-above}
 
--- `ranges::iter::ends_of` gives `ends_of` of the two bounds, before the first node
+-- `ends::ends_of` gives `ends_of` of the two bounds, before the first node
 
 -- "for every key these numbers and the two bounds say the same"
 pub n2-every-key : (lower upper : Bound) (k : ℕ) → k < 2 ^ 64 → holds (ends_of lower upper) k ≡ (key_meets_lower lower k && key_meets_upper upper k)

@@ -4,7 +4,8 @@ use Rattle.std.proofs.Math.Path.{refl}
 use Rattle.std.proofs.Common.{inl, inr}
 use Rattle.format.specs.declared.Width.{Width as NamedWidth}
 use Rattle.format.specs.declared.Width.TheVariants.{Two, Four, Eight}
-use Rattle.format.specs.Layout.{Width, two, eight, sign_bits, Layout, at_width, entries_in_range, pointer, leaf_size, inner_size, record_size, record_align, Limits}
+use Rattle.format.specs.Layout.{Width, two, eight, sign_bits, Layout, at_width, entries_in_range, pointer, leaf_size, inner_size, record_size}
+use Rattle.format.specs.Layout.{record_align, Limits}
 use Rattle.format.specs.Refusal.{gives, refuses, provided, RefusesBy}
 use Rattle.format.specs.Bytes.{le_at}
 use Rattle.format.specs.Signed.{of_twos}

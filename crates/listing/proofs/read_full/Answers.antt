@@ -16,5 +16,6 @@ more done room n old part within fits =
 
 pub loop-done-preserved : goal.loop-done-preserved
 loop-done-preserved g c =
-    let front = more c.loop-done.done (length c.loop-done.buffer - c.loop-done.done) c.in_ok-n.n c.loop-done.buffer c.read.new.buf (omega arith) c.in_ok-n.ensures.bound.0 in
+    let left = length c.loop-done.buffer - c.loop-done.done in
+    let front = more c.loop-done.done left c.in_ok-n.n c.loop-done.buffer c.read.new.buf (omega arith) c.in_ok-n.ensures.bound.0 in
     (search rules, search rules, subst (Consumes _ _) (sym front) (Consumes-trans _ _ _ _ _ c.loop-done.invariant.2 c.in_ok-n.ensures.bytes.0))

@@ -16,7 +16,8 @@ child_below-returns-then-archive-p-eq0 t c =
     let L = numbered a.w a.e in
     let at = a.field - 1 - (a.ones - c.number_at-offset.result) in
     let to : LeadsTo L a.archive.now a.field at =
-    leads-by L _ _ _ _ c.number_at-offset.ensures.0 c.number_at-offset.ensures.1 c.requires.0.full c.if-offset-back.false (omega (arith, c.if-field-start.false)) in
+    leads-by L _ _ _ _ c.number_at-offset.ensures.0 c.number_at-offset.ensures.1 c.requires.0.full c.if-offset-back.false
+    (omega (arith, c.if-field-start.false)) in
     let ends : at + (8 + 16 * a.e) + 8 ≡ at + leaf_size L = omega (arith, leaf-is L) in
     leaf-child _ _ _ _ _ to (omega (arith, c.if-field-start.false)) c.if-p-ne0.false a.depth c.requires.4 c.if-archive-p-eq0.true ends c.if-end-after.false
     c.number_at-count.ensures.0 c.if-count-e.false
@@ -27,8 +28,10 @@ child_below-returns t c =
     let L = numbered a.w a.e in
     let at = a.field - 1 - (a.ones - c.number_at-offset.result) in
     let to : LeadsTo L a.archive.now a.field at =
-    leads-by L _ _ _ _ c.number_at-offset.ensures.0 c.number_at-offset.ensures.1 c.requires.0.full c.if-offset-back.false (omega (arith, c.if-field-start.false)) in
-    inner-child _ _ _ _ _ to (omega (arith, c.if-field-start.false)) c.if-p-ne0.false c.if-archive-p-ne1.false (ap (λ (n : ℕ). at + n) c.inner_of-size.ensures.0)
+    leads-by L _ _ _ _ c.number_at-offset.ensures.0 c.number_at-offset.ensures.1 c.requires.0.full c.if-offset-back.false
+    (omega (arith, c.if-field-start.false)) in
+    inner-child _ _ _ _ _ to (omega (arith, c.if-field-start.false)) c.if-p-ne0.false c.if-archive-p-ne1.false
+    (ap (λ (n : ℕ). at + n) c.inner_of-size.ensures.0)
     c.if-end-p.false a.depth c.requires.4 (c.node_below-entries.ensures (omega (arith, c.if-entries-eq0.false)))
 
 pub node_below-overflow_add-total : goal.node_below-overflow_add-total

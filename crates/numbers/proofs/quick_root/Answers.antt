@@ -14,7 +14,8 @@ returns-then-is_common c =
     let p = c.inner_root-p.result in
     let root : InnerBack L a.archive.now a.at p = c.inner_root-p.ensures (omega arith) in
     λ h. root-passes L _ _ _ root.to root.aligned root.inner refl root.room (omega arith)
-    (subst (λ (M : Layout). Below M a.archive.now (a.depth - 1) 0 p c.quick_node.result) (sym (c.is_common.ensures c.if-is_common.true)) (c.quick_node.ensures h))
+    (subst (λ (M : Layout). Below M a.archive.now (a.depth - 1) 0 p c.quick_node.result) (sym (c.is_common.ensures c.if-is_common.true))
+    (c.quick_node.ensures h))
 
 pub node_below-requires : goal.node_below-requires
 node_below-requires c =

@@ -9,7 +9,8 @@ use Rattle.format.specs.declared.Child.TheVariants.{At, Absent}
 use Rattle.format.specs.Layout.{Width, two, four, eight, Layout, sign_bits, pointer, head_size, inner_size}
 use Rattle.format.specs.Refusal.{gives}
 use Rattle.format.specs.RelPtr.{signed_offset, stored_offset}
-use Rattle.format.specs.Tree.{Tree, leaf_t, inner_t, Branches, last_b, more_b, Branch, none_b, some_b, length_t, length_branches, length_branch, top_t, child_of}
+use Rattle.format.specs.Tree.{Tree, leaf_t, inner_t, Branches, last_b, more_b, Branch, none_b, some_b, length_t, length_branches, length_branch}
+use Rattle.format.specs.Tree.{top_t, child_of}
 use Rattle.format.specs.Tree.{KeyValue}
 use Rattle.format.specs.TreeShape.{own}
 use Rattle.format.specs.Offsets.{is_given, emplaces, fields_emplace, tree_emplaces, branches_emplace, branch_emplaces, archive_emplaces}

@@ -9,7 +9,8 @@ use Rattle.std.proofs.Math.Decide.{dec_lt}
 use Rattle.std.proofs.Math.ListN.{length, length-append, length-drop}
 use Rattle.format.specs.declared.Child.TheVariants.{Absent}
 use Rattle.format.specs.Layout.{Layout}
-use Rattle.format.specs.Tree.{Slot, slot_of, inner_bytes, length_branches, length_branch, child_of, slots_of, greater_of, write_branches, write_branch, KeyValue}
+use Rattle.format.specs.Tree.{Slot, slot_of, inner_bytes, length_branches, length_branch, child_of, slots_of, greater_of, write_branches}
+use Rattle.format.specs.Tree.{write_branch, KeyValue}
 use Rattle.format.specs.Build.{Filled, FilledBranches, fill_next, fill_branches, fill_leaf, fill}
 use Rattle.format.specs.Serialize.{State, with_inners, close_leaf, climb, Taken, take_entries, transit, push_leaf, turn}
 use Rattle.format.proofs.Laws.Build.LoopInner.{extra_level, one-extra, Left, left-pos, Far, no_pair, last_of, more_of, ready, done, sealed, shut}

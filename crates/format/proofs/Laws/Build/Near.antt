@@ -5,7 +5,8 @@ use Rattle.std.proofs.Common.{ap, arith}
 use Rattle.format.specs.declared.Child.{Child}
 use Rattle.format.specs.declared.Child.TheVariants.{At, Absent}
 use Rattle.format.specs.Layout.{Width, two, four, eight, bytes, Layout, pointer, head_size, leaf_size, inner_size}
-use Rattle.format.specs.Tree.{Tree, leaf_t, inner_t, Branches, last_b, more_b, Branch, none_b, some_b, length_t, length_branches, length_branch, top_t, child_of}
+use Rattle.format.specs.Tree.{Tree, leaf_t, inner_t, Branches, last_b, more_b, Branch, none_b, some_b, length_t, length_branches, length_branch}
+use Rattle.format.specs.Tree.{top_t, child_of}
 use Rattle.format.specs.TreeShape.{own}
 use Rattle.format.proofs.Laws.Numbers.Widths.{bytes-some}
 use Rattle.format.proofs.Laws.Build.NodeBytes.{top_in}

@@ -42,7 +42,8 @@ module _ (L : Layout) (s : List ℕ) where
     child-accepted (gone ea es en) = rw (ea, check_child) (cc)
     child-accepted (there ea q el nd es) = rw (ea, check_child) (rw es (ih _ _ _ q _ el nd))
 
-    children-accepted : {p k i lo m : ℕ} → ChildrenOk L s N p k i lo m → (n : ℕ) → (stop : ℕ) × (check_children L s (check p) p k i lo n ≡ accepted (n + m) stop)
+    children-accepted : {p k i lo m : ℕ} → ChildrenOk L s N p k i lo m → (n : ℕ)
+        → (stop : ℕ) × (check_children L s (check p) p k i lo n ≡ accepted (n + m) stop)
     unfolding check_children
     children-accepted (last {stop = t} c) n = (t, rw (child-accepted c))
     children-accepted {m = m} (more {stop = t} {a = a} {b = b} c ks en) n =

@@ -1,6 +1,7 @@
 -- Laws of x and y as bits: for both packings that bits and degrees undo each other, and which x stand between two others by their bits. Bits that are
 -- plus 128 stand in the order of the degrees. Assumes nothing.
-use Rattle.std.specs.Prelude.{ℕ, suc, ◌+◌, ◌-◌, ◌/◌, ◌%◌, ◌≤◌, ◌<◌, ◌≡◌, refl, Bool, true, false, cond, ◌&&◌, ◌||◌, ◌↔◌, leb, ltb, ℤ, pos, negsuc, nat_abs, ◌+ℤ◌, ◌<ℤ◌}
+use Rattle.std.specs.Prelude.{ℕ, suc, ◌+◌, ◌-◌, ◌/◌, ◌%◌, ◌≤◌, ◌<◌, ◌≡◌, refl, Bool, true, false, cond, ◌&&◌, ◌||◌, ◌↔◌, leb, ltb, ℤ, pos, negsuc}
+use Rattle.std.specs.Prelude.{nat_abs, ◌+ℤ◌, ◌<ℤ◌}
 use Rattle.std.proofs.Common.{sym, ap, ap₂, ◌∙◌, arith, ltb→lt, lt→ltb, leb-true, le-leb, lt-ltb, le-ltb}
 use Rattle.std.proofs.Math.Decide.{dec_lt}
 use Rattle.std.specs.Int.Signed.{le_z, non_neg}

@@ -119,7 +119,8 @@ pub nothing-exactly : (lo hi : Bound) → Fits hi
     → ((k : ℕ) → k < 2 ^ 64 → (key_meets_lower lo k && key_meets_upper hi k) ≡ false) ↔ (ends_of lo hi ≡ Nothing)
 nothing-exactly lo hi f = (λ none. by none (ltb (least_of lo) (past_of hi)) refl, λ e k h. sym (ends-hold lo hi k h) ∙ ap (λ (x : Ends). holds x k) e)
   where
-    by : ((k : ℕ) → k < 2 ^ 64 → (key_meets_lower lo k && key_meets_upper hi k) ≡ false) → (b : Bool) → ltb (least_of lo) (past_of hi) ≡ b → ends_of lo hi ≡ Nothing
+    by : ((k : ℕ) → k < 2 ^ 64 → (key_meets_lower lo k && key_meets_upper hi k) ≡ false) → (b : Bool)
+        → ltb (least_of lo) (past_of hi) ≡ b → ends_of lo hi ≡ Nothing
     by none true e =
         let fits : least_of lo < 2 ^ 64 = omega (arith, ltb-true, past_fits hi f) in
         let met : (key_meets_lower lo (least_of lo) && key_meets_upper hi (least_of lo)) ≡ true =

@@ -124,7 +124,8 @@ module _ (L : Layout) (M : Limits) (s : List ℕ) where
   not_end f p i done a = refl
   not_end f p i (gave {p = q} {i = j} {l = l} r) a = by (f (slot L s q j)) refl (not_end f p i r a.1)
     where
-      by : (b : Bool) → f (slot L s q j) ≡ b → ends L s (first_key L (drop_to f l)) p i ≡ false → ends L s (first_key L (drop_to f (slot L s q j ∷ l))) p i ≡ false
+      by : (b : Bool) → f (slot L s q j) ≡ b → ends L s (first_key L (drop_to f l)) p i ≡ false
+          → ends L s (first_key L (drop_to f (slot L s q j ∷ l))) p i ≡ false
       by true eb ih =
           let ne : key_at L p i ≡ key_position L (slot L s q j) → ⊥ = λ e. let k = same_key L s p i q j (e ∙ slot-key L s q j) in omega arith in
           rw (eb, drop_to) (ne_eqb (key_at L p i) (key_position L (slot L s q j)) ne)

@@ -6,7 +6,8 @@ use mir.Facts.{to_z-of_z}
 use Rattle.format.proofs.Laws.Numbers.RelPtr.{fits_gives}
 use Rattle.offsets.proofs.Offsets.{below-refused, above-refused, in-range}
 use Rattle.offsets.proofs.rel_ptr.from_isize.Goals as goal
-use Rattle.offsets.proofs.rel_ptr.from_isize.Goals.{then-z-ltminus2147483648-via-then-z-ltminus2147483648, then-z-ltminus2147483648-via-else-z-ltminus2147483648+then-z-gt2147483647}
+use Rattle.offsets.proofs.rel_ptr.from_isize.Goals.{then-z-ltminus2147483648-via-then-z-ltminus2147483648}
+use Rattle.offsets.proofs.rel_ptr.from_isize.Goals.{then-z-ltminus2147483648-via-else-z-ltminus2147483648+then-z-gt2147483647}
 
 pub returns-then-z-ltminus2147483648 : goal.returns-then-z-ltminus2147483648
 returns-then-z-ltminus2147483648 c =

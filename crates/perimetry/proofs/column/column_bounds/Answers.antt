@@ -4,7 +4,8 @@ use mir.Facts.{to_z-of_z}
 use Rattle.format.specs.Key.{bits_of, key_of}
 use Rattle.format.proofs.Laws.Numbers.Key.{column-no-exam, column-no-eye, column-given}
 use Rattle.perimetry.proofs.column.column_bounds.Goals as goal
-use Rattle.perimetry.proofs.column.column_bounds.Goals.{then-examination-ge-EXAMINATIONS-via-then-examination-ge-EXAMINATIONS, then-examination-ge-EXAMINATIONS-via-else-examination-ge-EXAMINATIONS+then-eye-ge-EYES}
+use Rattle.perimetry.proofs.column.column_bounds.Goals.{then-examination-ge-EXAMINATIONS-via-then-examination-ge-EXAMINATIONS}
+use Rattle.perimetry.proofs.column.column_bounds.Goals.{then-examination-ge-EXAMINATIONS-via-else-examination-ge-EXAMINATIONS+then-eye-ge-EYES}
 
 pub returns-then-examination-ge-EXAMINATIONS : goal.returns-then-examination-ge-EXAMINATIONS
 returns-then-examination-ge-EXAMINATIONS c =

@@ -3,7 +3,9 @@ use Rattle.std.proofs.Common.{sym, arith}
 use mir.Facts.{to_z-of_z}
 use Rattle.format.proofs.Laws.Numbers.Key.{pack-no-exam, pack-no-eye, pack-no-pres, pack-given}
 use Rattle.perimetry.proofs.key.pack.Goals as goal
-use Rattle.perimetry.proofs.key.pack.Goals.{then-examination-ge-EXAMINATIONS-via-then-examination-ge-EXAMINATIONS, then-examination-ge-EXAMINATIONS-via-else-examination-ge-EXAMINATIONS+then-eye-ge-EYES, then-examination-ge-EXAMINATIONS-via-else-examination-ge-EXAMINATIONS+else-eye-ge-EYES+then-presentation-ge-PRESENTATIONS}
+use Rattle.perimetry.proofs.key.pack.Goals.{then-examination-ge-EXAMINATIONS-via-then-examination-ge-EXAMINATIONS}
+use Rattle.perimetry.proofs.key.pack.Goals.{then-examination-ge-EXAMINATIONS-via-else-examination-ge-EXAMINATIONS+then-eye-ge-EYES}
+use Rattle.perimetry.proofs.key.pack.Goals.{then-examination-ge-EXAMINATIONS-via-else-examination-ge-EXAMINATIONS+else-eye-ge-EYES+then-presentation-ge-PRESENTATIONS}
 
 pub returns-then-examination-ge-EXAMINATIONS : goal.returns-then-examination-ge-EXAMINATIONS
 returns-then-examination-ge-EXAMINATIONS c =

@@ -33,7 +33,8 @@ pub overflow_add-at : goal.overflow_add-at
 overflow_add-at c =
     let all = whole (goal.at.overflow_add-at c).After-u64_at-k in
     let key = slot-key _ _ _ _ _ c.u64_at-k.ensures in
-    let fits = one-fits _ _ [] _ _ (slots-more _ _ _ _ _ c.loop-i-test.true) c.loop-i.invariant.3 key _ _ _ all _ (sym (runs_none _ _)) _ c.requires.pos_bound in
+    let more = slots-more _ _ _ _ _ c.loop-i-test.true in
+    let fits = one-fits _ _ [] _ _ more c.loop-i.invariant.3 key _ _ _ all _ (sym (runs_none _ _)) _ c.requires.pos_bound in
     omega (arith, fits (omega arith) c.if-greatest-k.false)
 
 -- Where the arms of the lower bound's test meet, the slot is taken, or it is below.

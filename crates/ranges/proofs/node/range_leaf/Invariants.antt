@@ -12,7 +12,8 @@ abbrev pub invariant-loop-i : goal.invariant-loop-i
 invariant-loop-i l =
     let left = slots (layout_of l.layout) l.archive l.pos.0 in
     (l.i ≤ l.n) × (length l.keys ≡ length l.initial.keys) × (length l.values ≡ length l.initial.values) × Ascending (left (l.n - l.i) l.i)
-    × (ranged l.least l.greatest (left (l.n - l.i) l.i) (out l.keys l.values l.at) ≡ ranged l.least l.greatest (left (l.n - l.initial.i) l.initial.i) (out l.initial.keys l.initial.values l.initial.at))
+    × (ranged l.least l.greatest (left (l.n - l.i) l.i) (out l.keys l.values l.at)
+    ≡ ranged l.least l.greatest (left (l.n - l.initial.i) l.initial.i) (out l.initial.keys l.initial.values l.initial.at))
 
 abbrev pub decreases-loop-i : goal.decreases-loop-i
 decreases-loop-i l = l.n - l.i

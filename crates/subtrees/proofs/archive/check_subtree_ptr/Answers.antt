@@ -2,7 +2,8 @@
 use Rattle.std.proofs.Common.{sym, arith}
 use Rattle.subtrees.proofs.Places.{placed-low, placed-high, placed-odd, placed-in}
 use Rattle.subtrees.proofs.archive.check_subtree_ptr.Goals as goal
-use Rattle.subtrees.proofs.archive.check_subtree_ptr.Goals.{then-from-start-via-then-from-start, then-from-start-via-else-from-start+then-end-from, then-from-start-via-else-from-start+else-end-from+then-end-from-2}
+use Rattle.subtrees.proofs.archive.check_subtree_ptr.Goals.{then-from-start-via-then-from-start, then-from-start-via-else-from-start+then-end-from}
+use Rattle.subtrees.proofs.archive.check_subtree_ptr.Goals.{then-from-start-via-else-from-start+else-end-from+then-end-from-2}
 
 pub returns-then-from-start : goal.returns-then-from-start
 returns-then-from-start c =

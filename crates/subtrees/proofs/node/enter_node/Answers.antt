@@ -25,7 +25,8 @@ pub returns-in_default-placed : goal.returns-in_default-placed
 returns-in_default-placed c =
     let refused = c.refused_ptr in
     let leads = sym c.rel_ptr_at.ensures ∙ ap target_of c.in-At.is in
-    let answer = node-refused _ _ _ _ _ _ _ leads (placed-sized _ _ _ _ c.check_subtree_ptr-placed.ensures c.node.ensures.0) c.in_default-placed.is refused.ensures in
+    let placed = placed-sized _ _ _ _ c.check_subtree_ptr-placed.ensures c.node.ensures.0 in
+    let answer = node-refused _ _ _ _ _ _ _ leads placed c.in_default-placed.is refused.ensures in
     rw c.entered_leaf.ensures (enters-leaf _ _ _ _ _ refused.result answer)
 
 pub bounds-archive-from : goal.bounds-archive-from

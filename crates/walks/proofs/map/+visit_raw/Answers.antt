@@ -68,7 +68,8 @@ loop-i-preserved t c =
     let rest = left [] (list_children L s all c.args.pos.0) c.args.layout.entries in
     let passed : fill (rest (o.i + 1)) (out f.keys f.values f.at) ≡ fill (rest 0) (out c.args.keys.now c.args.values.now c.args.start) =
     elim f.branch [
-      | then-i-layout w ↦ left_step _ _ put _ _ _ _ _ _ _ joined o.invariant.3 w.if-i-layout.true _ (out-same w.keys-is w.values-is w.at-is ∙ w.visit_key_value_raw-at.ensures)
+      | then-i-layout w ↦ left_step _ _ put _ _ _ _ _ _ _ joined o.invariant.3 w.if-i-layout.true _
+          (out-same w.keys-is w.values-is w.at-is ∙ w.visit_key_value_raw-at.ensures)
       | else-i-layout w ↦
           left-last _ _ put _ _ _ _ _ _ _ (out-same w.keys-is w.values-is w.at-is ∙ joined) o.invariant.3 (omega arith) w.if-i-layout.false
     ]
