@@ -7,7 +7,6 @@ use native.Mathlib.Decide.{dec_lt}
 use native.Mathlib.Omega.{arith}
 use lib.IntN.{pos, ◌+ℤ◌}
 use borrow.Author.Tests.{eq-eqb, ne_eqb}
-use Rattle.format.specs.declared.Child.TheVariants.{At, Absent}
 use Rattle.format.specs.Layout.{Layout, pointer, sign_bits}
 use Rattle.format.specs.Bytes.{le_at}
 use Rattle.format.specs.Signed.{of_twos}
@@ -52,7 +51,7 @@ module _ (L : Layout) (s : List ℕ) where
 
   -- f is the field of child i of the inner node at p as the code computes it, and x what it reads there.
   module _ (p i f x : ℕ) (at_f : f ≡ child L p i) (e : x ≡ le_at (pointer L) s f) where
-    pub field-absent : x ≡ 1 → Absent ≡ child_at L s (child L p i)
+    pub field-absent : x ≡ 1 → None ≡ child_at L s (child L p i)
     unfolding absent
     field-absent h = rw (← at_f) (sym (child-absent L s f (eq-eqb _ _ (sym e ∙ h))))
 
@@ -74,5 +73,5 @@ module _ (L : Layout) (s : List ℕ) where
       pub field-before : o - x ≤ f - 1
       field-before = let inside = field-inside in omega arith
 
-      pub field-there : At (record { 0 = f - 1 - (o - x) }) ≡ child_at L s (child L p i)
+      pub field-there : Some (record { 0 = f - 1 - (o - x) }) ≡ child_at L s (child L p i)
       field-there = rw (← at_f) (sym (child-there L s f _ present (down_is f x o down e l all)))

@@ -6,11 +6,12 @@ use Prim.Native.Nat.{ℕ, zero, suc, ◌+◌, ◌-◌, ◌^◌, ◌≤◌, ◌<�
 use native.Mathlib.Omega.{arith}
 use borrow.Author.Tests.{le-leb}
 use lib.ListN.{length, replicate, length-replicate}
-use Rattle.format.specs.declared.Child.{Child}
 use Rattle.format.specs.Layout.{Width, two, four, eight, bytes, sign_bits, Layout, pointer, node_align, record_size}
+use Rattle.format.specs.declared.Position.{Position}
 use Rattle.format.specs.Bytes.{le_bytes, put}
 use Rattle.format.specs.Refusal.{gives, refuses}
-use Rattle.format.specs.Align.{is_alignment, zeros_to, Step, align_step}
+use Rattle.format.specs.Align.{is_alignment, zeros_to, align_step}
+use Rattle.format.specs.declared.Step.{Step}
 use Rattle.format.specs.Tree.{offset_bytes, Branch, none_b, some_b, length_branch, child_of, write_branch, KeyValue}
 use Rattle.format.specs.Weight.{weight, reach}
 use Rattle.format.specs.Build.{log_from, height, last_level, tree_of, first_align, record_bytes, behind}
@@ -79,7 +80,7 @@ module _ (L : Layout) where
 
 module _ (L : Layout) where
   -- The record: the offset q, as the field holds it, and the count.
-  pub record-by : (out o₁ o₂ : List ℕ) (p n q w : ℕ) (c : Child) → w ≡ pointer L → le_bytes (pointer L) q ≡ offset_bytes L p c
+  pub record-by : (out o₁ o₂ : List ℕ) (p n q w : ℕ) (c : Option Position) → w ≡ pointer L → le_bytes (pointer L) q ≡ offset_bytes L p c
       → o₁ ≡ put out p (le_bytes (pointer L) q) → o₂ ≡ put o₁ (p + w) (le_bytes (pointer L) n) → o₂ ≡ put out p (record_bytes L p c n)
   record-by out o₁ o₂ p n q w c ew e e₁ e₂ =
       e₂
@@ -87,7 +88,7 @@ module _ (L : Layout) where
       ∙ sym (put_then out p (pointer L) (offset_bytes L p c) (le_bytes (pointer L) n) (length-offset L p c))
 
   -- Zeros, the nodes and the record, one after the other.
-  pub behind-by : (b : Branch) (h n a s q : ℕ) (c : Child) (out o₁ o₂ o₃ : List ℕ) → first_align L b ≡ a → s ≡ h + zeros_to a h
+  pub behind-by : (b : Branch) (h n a s q : ℕ) (c : Option Position) (out o₁ o₂ o₃ : List ℕ) → first_align L b ≡ a → s ≡ h + zeros_to a h
       → q ≡ s + length_branch L b → c ≡ child_of L b s
       → o₁ ≡ put out h (replicate (s - h) 0) → o₂ ≡ put o₁ s (write_branch L b s) → o₃ ≡ put o₂ q (record_bytes L q c n)
       → o₃ ≡ put out h (behind L h b n)
@@ -100,7 +101,7 @@ module _ (L : Layout) where
       let ez : s - h ≡ z = omega (arith, ep) in
       let o : List ℕ = put out h (replicate z 0) in
       e₃
-      ∙ ap₂ (λ (x : ℕ) (y : Child). put o₂ x (record_bytes L x y n)) (eq ∙ ap (λ (x : ℕ). x + length_branch L b) ep) (ec ∙ ap (child_of L b) ep)
+      ∙ ap₂ (λ (x : ℕ) (y : Option Position). put o₂ x (record_bytes L x y n)) (eq ∙ ap (λ (x : ℕ). x + length_branch L b) ep) (ec ∙ ap (child_of L b) ep)
       ∙ ap (λ (x : List ℕ). put x (p + length_branch L b) r)
       (e₂ ∙ ap₂ (λ (x : List ℕ) (y : ℕ). put x y (write_branch L b y)) (e₁ ∙ ap (λ (x : ℕ). put out h (replicate x 0)) ez) ep)
       ∙ sym (put_then o p (length_branch L b) (write_branch L b p) r (length-write_branch L b p))

@@ -20,8 +20,6 @@ use Rattle.format.specs.Check.{Checked, accepted, refused, check_archive}
 use Rattle.format.specs.Lookup.{bytes_of, lookup}
 use Rattle.format.specs.Calls.{lookup_call, bytes_call}
 use Rattle.format.specs.declared.Entry.{Entry}
-use Rattle.format.specs.declared.Found.{Found}
-use Rattle.format.specs.declared.Found.TheVariants.{Entry as found, Nothing as nothing}
 use Rattle.codes.specs.Answers.{coded, Tells, stored, length_told, stored_found}
 use Rattle.codes.proofs.RefusalNumbers.{number-listed, listed-some}
 
@@ -88,18 +86,18 @@ module _ {A : Type 0} (v : A) {a : Answer A} where
       → (to_z w64 (of_z w64 z) ≡ coded (λ (x : A). 0) a) × (Tells (to_z w64 (of_z w64 z)) a × (v ≡ stored (λ (x : A). x) a v))
   part-refused why e fits h = answers-refused (λ (x : A). 0) why e fits h (store-refused (λ (x : A). x) v e)
 
-module _ (f : Entry → ℕ) (v : ℕ) {a : Answer Found} where
-  pub found-stored : {x : Entry} → a ≡ gives (found x) → f x ≡ stored_found f a v
-  found-stored e = sym (ap (λ (b : Answer Found). stored_found f b v) e)
+module _ (f : Entry → ℕ) (v : ℕ) {a : Answer (Option Entry)} where
+  pub found-stored : {x : Entry} → a ≡ gives (Some x) → f x ≡ stored_found f a v
+  found-stored e = sym (ap (λ (b : Answer (Option Entry)). stored_found f b v) e)
 
-  pub nothing_stored : a ≡ gives nothing → v ≡ stored_found f a v
-  nothing_stored e = sym (ap (λ (b : Answer Found). stored_found f b v) e)
+  pub nothing_stored : a ≡ gives None → v ≡ stored_found f a v
+  nothing_stored e = sym (ap (λ (b : Answer (Option Entry)). stored_found f b v) e)
 
   pub refused-stored : {r : ℕ} → a ≡ refuses r → v ≡ stored_found f a v
-  refused-stored e = sym (ap (λ (b : Answer Found). stored_found f b v) e)
+  refused-stored e = sym (ap (λ (b : Answer (Option Entry)). stored_found f b v) e)
 
 -- The value's bytes, by what lookup answers.
-abbrev bytes_by : List ℕ → Answer Found → List ℕ
+abbrev bytes_by : List ℕ → Answer (Option Entry) → List ℕ
 bytes_by s (gives x) = bytes_of s x
 bytes_by s (refuses r) = []
 
@@ -113,11 +111,11 @@ module _ (L : Layout) (M : Limits) (s : List ℕ) (k : ℕ) where
   unfolding bytes_call lookup_call
   bytes-by = by-check (check_archive L M s)
 
-  pub found_part : {x : Entry} → lookup_call L M s k ≡ gives (found x) → bytes_call L M s k ≡ take 8 (drop x.position.0 s)
+  pub found_part : {x : Entry} → lookup_call L M s k ≡ gives (Some x) → bytes_call L M s k ≡ take 8 (drop x.position.0 s)
   unfolding bytes_of
   found_part e = bytes-by ∙ ap (bytes_by s) e
 
-  pub nothing-part : lookup_call L M s k ≡ gives nothing → bytes_call L M s k ≡ []
+  pub nothing-part : lookup_call L M s k ≡ gives None → bytes_call L M s k ≡ []
   unfolding bytes_of
   nothing-part e = bytes-by ∙ ap (bytes_by s) e
 

@@ -1,18 +1,17 @@
 -- Answers as one signed number, and what lent numbers hold afterwards. Assumes nothing: these are definitions.
-use Rattle.std.specs.Prelude.{ℕ, zero, suc, ◌≤◌, Bool, true, false, ◌≡◌, ◌⊎◌, eqb, ℤ, pos, negsuc, neg_ℤ, ◌≤ℤ◌, ◌<ℤ◌}
+use Rattle.std.specs.Prelude.{ℕ, zero, suc, ◌≤◌, Bool, true, false, ◌≡◌, ◌⊎◌, eqb, ℤ, pos, negsuc, neg_ℤ, ◌≤ℤ◌, ◌<ℤ◌, None, Option, Some}
 use Rattle.format.specs.declared.Entry.{Entry}
-use Rattle.format.specs.declared.Bound.{Bound}
-use Rattle.format.specs.declared.Bound.TheVariants.{Included, Excluded, Unbounded}
+use Rattle.std.specs.declared.ops.Bound.{Bound}
+use Rattle.std.specs.declared.ops.Bound.TheVariants.{Included, Excluded, Unbounded}
 use Rattle.format.specs.declared.Packing.{Packing}
 use Rattle.format.specs.declared.Packing.TheVariants.{TwosComplement, Plus128}
 use Rattle.format.specs.declared.Width.{Width}
 use Rattle.format.specs.declared.Width.TheVariants.{Two, Four, Eight}
-use Rattle.format.specs.declared.Found.{Found}
-use Rattle.format.specs.declared.Found.TheVariants.{Entry as found, Nothing as nothing}
 use Rattle.format.specs.Layout.{Layout, width_of, Limits, counts_as}
 use Rattle.format.specs.Refusal.{Answer, gives, refuses}
-use Rattle.format.specs.Align.{Step}
-use Rattle.format.specs.Calls.{Walk, Matched}
+use Rattle.format.specs.declared.Step.{Step}
+use Rattle.format.specs.declared.Matched.{Matched}
+use Rattle.format.specs.declared.Walk.{Walk}
 
 -- An answer as one number: that of what is given, from 0 on, or minus the refusal's.
 abbrev pub coded : {A : Type 0} → (A → ℕ) → Answer A → ℤ
@@ -34,14 +33,14 @@ stored f (gives a) x = f a
 stored f (refuses r) x = x
 
 -- Of a lookup, 1 for an entry and 0 for none.
-abbrev pub found_flag : Found → ℕ
-found_flag (found e) = 1
-found_flag nothing = 0
+abbrev pub found_flag : Option Entry → ℕ
+found_flag (Some e) = 1
+found_flag None = 0
 
 -- How many bytes the value's part of the archive has: eight, or none where no entry is found.
-abbrev pub part_length : Found → ℕ
-part_length (found e) = 8
-part_length nothing = 0
+abbrev pub part_length : Option Entry → ℕ
+part_length (Some e) = 8
+part_length None = 0
 
 -- The length that an answer tells: the number, or 0 where it is below 0.
 abbrev pub length_told : ℤ → ℕ
@@ -54,9 +53,9 @@ seen_flag true = 1
 seen_flag false = 0
 
 -- What a place that held x holds after a lookup: a part of the entry, or x where there is none.
-abbrev pub stored_found : (Entry → ℕ) → Answer Found → ℕ → ℕ
-stored_found f (gives (found e)) x = f e
-stored_found f (gives nothing) x = x
+abbrev pub stored_found : (Entry → ℕ) → Answer (Option Entry) → ℕ → ℕ
+stored_found f (gives (Some e)) x = f e
+stored_found f (gives None) x = x
 stored_found f (refuses r) x = x
 
 -- The parts of what is given, by name.
@@ -85,7 +84,7 @@ abbrev pub step_zeros : Step → ℕ
 step_zeros s = s.zeros
 
 -- A bound by its kind and key.
-abbrev pub bound_of : ℕ → ℕ → Bound
+abbrev pub bound_of : ℕ → ℕ → Bound ℕ
 bound_of zero k = Included k
 bound_of (suc zero) k = Excluded k
 bound_of (suc (suc n)) k = Unbounded

@@ -6,18 +6,21 @@ use native.Mathlib.Decide.{dec_lt}
 use native.Mathlib.Omega.{arith}
 use lib.IntN.{ℤ}
 use lib.ListN.{length}
-use Rattle.format.specs.declared.Bound.{Bound}
+use Rattle.std.specs.declared.ops.Bound.{Bound}
 use Rattle.format.specs.declared.Packing.{Packing}
 use Rattle.format.specs.Layout.{Layout, Limits, server, Within, nested}
 use Rattle.format.specs.Refusal.{Answer, gives, refuses}
-use Rattle.format.specs.Key.{Column, column_bounds}
+use Rattle.format.specs.Key.{column_bounds}
+use Rattle.format.specs.declared.Column.{Column}
 use Rattle.format.specs.Check.{Checked, accepted, refused, counted, root, recorded, check_archive}
 use Rattle.format.specs.Accepted.{Archive}
 use Rattle.format.specs.Certify.{certify}
 use Rattle.format.specs.Entries.{list}
 use Rattle.format.specs.Range.{matches, range}
 use Rattle.format.specs.Written.{written}
-use Rattle.format.specs.Calls.{Walk, Matched, walk_call, range_call, column_call}
+use Rattle.format.specs.Calls.{walk_call, range_call, column_call}
+use Rattle.format.specs.declared.Matched.{Matched}
+use Rattle.format.specs.declared.Walk.{Walk}
 use Rattle.format.proofs.Laws.Check.Archive.{list_length}
 use Rattle.format.proofs.Laws.Check.Bounds.{holds-bytes}
 use Rattle.format.proofs.Laws.Range.List.{select-few}
@@ -53,7 +56,7 @@ module _ (L : Layout) {M : Limits} (w : Within M server) (s : List ℕ) where
             omega (arith, list-most n (ap counted ea))
         by (refused r) ea = absurd (given (sym e ∙ walk-refuses L M s r (ap counted ea) ks vs))
 
-    pub range-most : (lo hi : Bound) (m : Matched) → range_call L M s lo hi ks vs ≡ gives m → m.written ≤ server.longest
+    pub range-most : (lo hi : Bound ℕ) (m : Matched) → range_call L M s lo hi ks vs ≡ gives m → m.written ≤ server.longest
     unfolding range
     range-most lo hi m e = by (certify L M s) refl
       where

@@ -2,12 +2,11 @@
 -- holds of accepted, certified and built archives. The words in quotes are the mission's. The calls' contracts equate each answer, and each lent list
 -- afterwards, with a definition of `format` at the layout and under the limits that are named; the theorems speak of these definitions, for all layouts,
 -- limits and arguments. Assumes nothing.
-use Rattle.std.specs.Prelude.{ℕ, ◌^◌, ◌≤◌, ◌<◌, ◌≡◌, ◌≢◌, ◌↔◌, ◌⊎◌, true, false, List, [], map, ◌++◌, length, take, drop, ℤ}
+use Rattle.std.specs.Prelude.{ℕ, ◌^◌, ◌≤◌, ◌<◌, ◌≡◌, ◌≢◌, ◌↔◌, ◌⊎◌, true, false, List, [], map, ◌++◌, length, take, drop, ℤ, None, Some}
 use Rattle.std.proofs.Common.{sym, ◌∙◌, arith, lit≤, length-take-le}
 use Rattle.std.proofs.Math.Path.{ap}
 use Rattle.format.specs.declared.Entry.{Entry}
-use Rattle.format.specs.declared.Found.TheVariants.{Entry as found, Nothing as nothing}
-use Rattle.format.specs.declared.Bound.{Bound}
+use Rattle.std.specs.declared.ops.Bound.{Bound}
 use Rattle.format.specs.declared.Packing.{Packing}
 use Rattle.format.specs.Layout.{Layout, Limits, server}
 use Rattle.format.specs.Refusal.{Answer, gives, refuses, From, RefusesBy, RefusesAt}
@@ -92,7 +91,7 @@ module _ (L : Layout) (M : Limits) where
       record { certifying = certify-refuses L M s r e; lookup = lookup-refuses L M s r e; walk = walk-refuses L M s r e }
 
   pub record CertifyRefused (s : List ℕ) (r : ℕ) : Type 0 where
-    pub range : (lo hi : Bound) (ks vs : List ℕ) → range_call L M s lo hi ks vs ≡ refuses r
+    pub range : (lo hi : Bound ℕ) (ks vs : List ℕ) → range_call L M s lo hi ks vs ≡ refuses r
     pub column : (P : Packing) (exam eye : ℕ) (a b : ℤ) (ks vs : List ℕ) → column_call L M s P exam eye a b ks vs ≡ refuses r
 
   pub demand-1-certify-refused : (s : List ℕ) (r : ℕ) → counted (certify L M s) ≡ refuses r → CertifyRefused s r
@@ -122,12 +121,12 @@ module _ (L : Layout) (M : Limits) where
       record { check = c; keys = walk-keys-refuses L M s r c ks vs; values = walk-values-refuses L M s r c ks vs }
 
   -- A range that refuses: only where certify does.
-  pub record RangeRefused (s : List ℕ) (lo hi : Bound) (ks vs : List ℕ) (r : ℕ) : Type 0 where
+  pub record RangeRefused (s : List ℕ) (lo hi : Bound ℕ) (ks vs : List ℕ) (r : ℕ) : Type 0 where
     pub certifying : counted (certify L M s) ≡ refuses r
     pub keys : range_keys L M s lo hi ks vs ≡ ks
     pub values : range_values L M s lo hi ks vs ≡ vs
 
-  pub demand-1-range : (s : List ℕ) (lo hi : Bound) (ks vs : List ℕ) (r : ℕ) → range_call L M s lo hi ks vs ≡ refuses r → RangeRefused s lo hi ks vs r
+  pub demand-1-range : (s : List ℕ) (lo hi : Bound ℕ) (ks vs : List ℕ) (r : ℕ) → range_call L M s lo hi ks vs ≡ refuses r → RangeRefused s lo hi ks vs r
   demand-1-range s lo hi ks vs r e =
       let c = range-refused L M s lo hi ks vs r e in
       record { certifying = c; keys = range-keys-refuses L M s r c lo hi ks vs; values = range-values-refuses L M s r c lo hi ks vs }
@@ -161,7 +160,7 @@ module _ (L : Layout) where
 -- crate's `verify`, `get_key_value_raw` and `visit_raw`; the range and the builder are proved equal to theirs.
 
 -- What the crate's iterator gives, on certified bytes and bounds that do not cross.
-pub demand-2-range : (L : Layout) (M : Limits) (s : List ℕ) (n : ℕ) → counted (certify L M s) ≡ gives n → (lo hi : Bound) → crosses lo hi ≡ false
+pub demand-2-range : (L : Layout) (M : Limits) (s : List ℕ) (n : ℕ) → counted (certify L M s) ≡ gives n → (lo hi : Bound ℕ) → crosses lo hi ≡ false
     → Yields L M s (new L M s lo hi) (range L M s lo hi)
 demand-2-range L M s n e lo hi c = let C = is-certified L M s n e in range-yields L M s (omega (arith, C.archive.least)) C lo hi c
 
@@ -223,9 +222,9 @@ module _ (L : Layout) (M : Limits) where
       pub answer : lookup_call L M s k ≡ gives (find k (list L M s))
       pub part : bytes_call L M s k ≡ bytes_of s (find k (list L M s))
       pub place : (a : ℕ × ℕ) → place_call L M s a k ≡ place_of a (find k (list L M s))
-      pub hit : (e : Entry) → find k (list L M s) ≡ found e → In e (list L M s) × (e.key ≡ k)
-      pub only : (e : Entry) → In e (list L M s) → e.key ≡ k → find k (list L M s) ≡ found e
-      pub miss : find k (list L M s) ≡ nothing → (e : Entry) → In e (list L M s) → e.key ≢ k
+      pub hit : (e : Entry) → find k (list L M s) ≡ Some e → In e (list L M s) × (e.key ≡ k)
+      pub only : (e : Entry) → In e (list L M s) → e.key ≡ k → find k (list L M s) ≡ Some e
+      pub miss : find k (list L M s) ≡ None → (e : Entry) → In e (list L M s) → e.key ≢ k
 
     pub demand-3-lookup : (k : ℕ) → LookupFinds k
     demand-3-lookup k =
@@ -243,12 +242,12 @@ module _ (L : Layout) (M : Limits) where
         }
 
     -- "and for every two bounds the range gives the number of entries that meet both and writes exactly these, in order as far as the lent lists go"
-    pub record RangeWrites (lo hi : Bound) (ks vs : List ℕ) : Type 0 where
+    pub record RangeWrites (lo hi : Bound ℕ) (ks vs : List ℕ) : Type 0 where
       pub answer : range_call L M s lo hi ks vs ≡ gives (record { written = written (range L M s lo hi) ks vs; matching = length (range L M s lo hi) })
       pub keys : range_keys L M s lo hi ks vs ≡ keys_after (range L M s lo hi) ks vs
       pub values : range_values L M s lo hi ks vs ≡ values_after (range L M s lo hi) ks vs
 
-    pub demand-3-range : (lo hi : Bound) (ks vs : List ℕ) → RangeWrites lo hi ks vs
+    pub demand-3-range : (lo hi : Bound ℕ) (ks vs : List ℕ) → RangeWrites lo hi ks vs
     demand-3-range lo hi ks vs =
         record {
           answer = range-certified L M s n certifies lo hi ks vs;

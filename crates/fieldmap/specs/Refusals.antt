@@ -6,13 +6,14 @@ use Rattle.std.proofs.Math.ListN.{length}
 use Rattle.std.proofs.Math.IntN.{sub_ℕ}
 use Rattle.std.proofs.Math.Dec.{lit≤}
 use Rattle.std.specs.Int.Signed.{mag}
-use Rattle.format.specs.declared.Bound.{Bound}
+use Rattle.std.specs.declared.ops.Bound.{Bound}
 use Rattle.format.specs.declared.Packing.{Packing}
 use Rattle.format.specs.Layout.{Layout, entries_in_range, Limits, pointer}
 use Rattle.format.specs.Refusal.{Answer, gives, refuses, provided, and_then, From, RefusesBy, RefusesAt}
 use Rattle.format.specs.RelPtr.{fit_signed, signed_offset, stored_offset, absent_offset}
 use Rattle.format.specs.Align.{is_alignment, zeros_to, align_step}
-use Rattle.format.specs.Key.{Column, pack_key, column_bounds}
+use Rattle.format.specs.Key.{pack_key, column_bounds}
+use Rattle.format.specs.declared.Column.{Column}
 use Rattle.format.specs.Check.{counted, check_archive}
 use Rattle.format.specs.Certify.{certify}
 use Rattle.format.specs.Build.{tree_of, start, behind, pairs, rises, build, build_length}
@@ -178,7 +179,7 @@ module _ (L : Layout) (M : Limits) (s : List ℕ) where
   pub walk_refused : (ks vs : List ℕ) (r : ℕ) → walk_call L M s ks vs ≡ refuses r → counted (check_archive L M s) ≡ refuses r
   walk_refused ks vs = refused-first _ _ (λ n e. (_, walk-accepted L M s n e ks vs)) (λ q e. walk-refuses L M s q e ks vs)
 
-  pub range-refused : (lo hi : Bound) (ks vs : List ℕ) (r : ℕ) → range_call L M s lo hi ks vs ≡ refuses r → counted (certify L M s) ≡ refuses r
+  pub range-refused : (lo hi : Bound ℕ) (ks vs : List ℕ) (r : ℕ) → range_call L M s lo hi ks vs ≡ refuses r → counted (certify L M s) ≡ refuses r
   range-refused lo hi ks vs = refused-first _ _ (λ n e. (_, range-certified L M s n e lo hi ks vs)) (λ q e. range-refuses L M s q e lo hi ks vs)
 
   -- The column query: certify's refusals, then 18; the lent lists stay.

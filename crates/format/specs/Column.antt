@@ -6,7 +6,8 @@ use Rattle.format.specs.declared.Packing.{Packing}
 use Rattle.format.specs.declared.Packing.TheVariants.{TwosComplement, Plus128}
 use Rattle.format.specs.Layout.{Layout, Limits}
 use Rattle.format.specs.Entries.{list}
-use Rattle.format.specs.Key.{KeyParts, fields_of}
+use Rattle.format.specs.Key.{fields_of}
+use Rattle.format.specs.declared.KeyFields.{KeyFields}
 use Rattle.format.specs.Range.{select}
 
 -- "x from a to b, and none if a is above b"
@@ -23,7 +24,7 @@ takes TwosComplement (negsuc a) (pos b) x = false
 takes TwosComplement (negsuc a) (negsuc b) x = from_to (negsuc a) (negsuc b) x
 
 -- A key "of that examination and eye", the fields of which are given.
-abbrev pub OfEye : ℕ → ℕ → KeyParts → Type 0
+abbrev pub OfEye : ℕ → ℕ → KeyFields → Type 0
 OfEye exam eye f = (f.examination ≡ exam) × (f.eye ≡ eye)
 
 -- The same as a test of an entry's key, with an x that passes the test t.
@@ -31,7 +32,7 @@ abbrev pub eye_with : Packing → ℕ → ℕ → (ℤ → Bool) → Entry → B
 eye_with P exam eye t e = let f = fields_of P e.key in eqb f.examination exam && (eqb f.eye eye && t f.x)
 
 -- "columns left to right": of two points, by x, then y, then presentation.
-abbrev pub Before : KeyParts → KeyParts → Type 0
+abbrev pub Before : KeyFields → KeyFields → Type 0
 Before f g = (f.x <ℤ g.x) ⊎ ((f.x ≡ g.x) × ((f.y <ℤ g.y) ⊎ ((f.y ≡ g.y) × (f.presentation < g.presentation))))
 
 -- The entries of the list that the query takes.

@@ -1,8 +1,7 @@
 -- Which offsets of an archive the pointer's width holds: refusal 16 of a build. Document 02, N8: "16 also when a 16-bit distance doesn't fit, after 14."
 -- Where one is refused, the crate's `emplace` panics. Assumes nothing: these are definitions.
-use Rattle.std.specs.Prelude.{ℕ, ◌+◌, Bool, true, false, ◌&&◌, ℤ}
-use Rattle.format.specs.declared.Child.{Child}
-use Rattle.format.specs.declared.Child.TheVariants.{At, Absent}
+use Rattle.std.specs.Prelude.{ℕ, ◌+◌, Bool, true, false, ◌&&◌, ℤ, None, Option, Some}
+use Rattle.format.specs.declared.Position.{Position}
 use Rattle.format.specs.Layout.{Layout, sign_bits, pointer, head_size}
 use Rattle.format.specs.Refusal.{Answer, gives, refuses}
 use Rattle.format.specs.RelPtr.{stored_offset, absent_offset}
@@ -14,9 +13,9 @@ is_given (refuses r) = false
 
 module _ (L : Layout) where
   -- The field at f takes the offset to a child: neither 15 nor 16 arises.
-  abbrev pub emplaces : ℕ → Child → Bool
-  emplaces f (At q) = is_given (stored_offset (sign_bits L.width) f q.0)
-  emplaces f Absent = is_given (absent_offset (sign_bits L.width) f)
+  abbrev pub emplaces : ℕ → Option Position → Bool
+  emplaces f (Some q) = is_given (stored_offset (sign_bits L.width) f q.0)
+  emplaces f None = is_given (absent_offset (sign_bits L.width) f)
 
   -- So do all fields of an inner node, the first of them at f, where its first child is written from p on.
   abbrev pub fields_emplace : Branches → ℕ → ℕ → Bool

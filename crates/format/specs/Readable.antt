@@ -1,19 +1,18 @@
 -- What the readers require of a node: one that the check accepted, without the check's ranges. Assumes nothing: these are definitions.
-use Rattle.std.specs.Prelude.{ℕ, zero, suc, ◌+◌, ◌≤◌, ◌<◌, ◌≡◌, true, false, List, length}
-use Rattle.format.specs.declared.Child.{Child}
-use Rattle.format.specs.declared.Child.TheVariants.{At, Absent}
+use Rattle.std.specs.Prelude.{ℕ, zero, suc, ◌+◌, ◌≤◌, ◌<◌, ◌≡◌, true, false, List, length, None, Option, Some}
+use Rattle.format.specs.declared.Position.{Position}
 use Rattle.format.specs.Layout.{Layout, leaf_size, inner_size, Limits, nested}
 use Rattle.format.specs.RelPtr.{at, below, target, absent, Destination}
 use Rattle.format.specs.Node.{leaf, inner, child, kind, leaf_count}
 
-abbrev child_to : Destination → Child
-child_to (at q) = At (record { 0 = q })
-child_to below = Absent
+abbrev child_to : Destination → Option Position
+child_to (at q) = Some (record { 0 = q })
+child_to below = None
 
 module _ (L : Layout) (s : List ℕ) where
   -- The child that the field f leads to.
-  unfoldable pub child_at : ℕ → Child
-  child_at f = elim (absent L s f) [ true ↦ Absent | false ↦ child_to (target L s f) ]
+  unfoldable pub child_at : ℕ → Option Position
+  child_at f = elim (absent L s f) [ true ↦ None | false ↦ child_to (target L s f) ]
 
   -- The field f is there and leads to q.
   pub record LeadsTo (f q : ℕ) : Type 0 where

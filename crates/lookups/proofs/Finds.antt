@@ -10,10 +10,6 @@ use lib.ListN.{length, take, drop, get_or}
 use borrow.Author.Tests.{eq-eqb, ne_eqb, le-ltb, lt-ltb}
 use Rattle.format.specs.declared.Entry.{Entry}
 use Rattle.format.specs.declared.Position.{Position}
-use Rattle.format.specs.declared.Child.{Child}
-use Rattle.format.specs.declared.Child.TheVariants.{At, Absent}
-use Rattle.format.specs.declared.Found.{Found}
-use Rattle.format.specs.declared.Found.TheVariants.{Entry as found, Nothing as nothing}
 use Rattle.format.specs.Layout.{Layout, keys_from, head_size, Limits, nested}
 use Rattle.format.specs.Bytes.{le_at}
 use Rattle.format.specs.Node.{leaf, inner, child, leaf_count, slot}
@@ -91,13 +87,13 @@ module _ (s : List ℕ) (p key : ℕ) where
 -- ---- the lookup in a node, by the scan
 
 module _ (L : Layout) (s : List ℕ) where
-  unfoldable leaf_found : ℕ → Seek → Found
-  leaf_found p (Equal i) = found (slot L s p i)
-  leaf_found p (Less i) = nothing
+  unfoldable leaf_found : ℕ → Seek → Option Entry
+  leaf_found p (Equal i) = Some (slot L s p i)
+  leaf_found p (Less i) = None
 
-  unfoldable inner_found : (ℕ → Found) → ℕ → Seek → Found
-  inner_found g p (Equal i) = found (slot L s p i)
-  inner_found g p (Less i) = on_child nothing g (child_at L s (child L p i))
+  unfoldable inner_found : (ℕ → Option Entry) → ℕ → Seek → Option Entry
+  inner_found g p (Equal i) = Some (slot L s p i)
+  inner_found g p (Less i) = on_child None g (child_at L s (child L p i))
 
   slots-seek : (key p n i : ℕ) → lookup_slots L s key p n i ≡ leaf_found p (seek_at s p key n i)
   unfolding lookup_slots leaf_found seek_at slot
@@ -110,7 +106,7 @@ module _ (L : Layout) (s : List ℕ) where
       go equal w ih = rw (w, lookup_slots, seek_at)
       go greater w ih = rw (w, lookup_slots, seek_at) ih
 
-  children-seek : (key : ℕ) (look : ℕ → Found) (p n i : ℕ) → lookup_children L s key look p n i ≡ inner_found look p (seek_at s p key n i)
+  children-seek : (key : ℕ) (look : ℕ → Option Entry) (p n i : ℕ) → lookup_children L s key look p n i ≡ inner_found look p (seek_at s p key n i)
   unfolding lookup_children inner_found seek_at slot
   children-seek key look p zero i = look-child L s key look (child L p i)
   children-seek key look p (suc n) i = go (order key (slot L s p i)) refl (children-seek key look p n (suc i))
@@ -133,28 +129,28 @@ module _ (L : Layout) (M : Limits) (s : List ℕ) where
 
   -- ---- the loop down the tree: r is what the scan of the node at p gave, and g what the lookup comes to
 
-  module _ (p key : ℕ) (r : Seek) (g : Found) (v : Node L M s p) (t : lookup_at L s key (nested M) p ≡ g) where
+  module _ (p key : ℕ) (r : Seek) (g : Option Entry) (v : Node L M s p) (t : lookup_at L s key (nested M) p ≡ g) where
     module _ (n : ℕ) (h : get_or s p 0 ≡ 0) (c : n ≡ leaf_count L s p) (q : r ≡ seek_at s p key n 0) where
-      pub leaf-hit : (i : ℕ) (e : Entry) → r ≡ Equal i → e ≡ slot L s p i → found e ≡ g
+      pub leaf-hit : (i : ℕ) (e : Entry) → r ≡ Equal i → e ≡ slot L s p i → Some e ≡ g
       unfolding leaf_found
       leaf-hit i e k f = cc (lookup-leaf p key v h, t, c, q)
 
-      pub leaf-miss : (i : ℕ) → r ≡ Less i → nothing ≡ g
+      pub leaf-miss : (i : ℕ) → r ≡ Less i → None ≡ g
       unfolding leaf_found
       leaf-miss i k = cc (lookup-leaf p key v h, t, c, q)
 
     module _ (h : get_or s p 0 ≡ 0 → ⊥) (q : r ≡ seek_at s p key L.entries 0) where
-      pub inner-hit : (i : ℕ) (e : Entry) → r ≡ Equal i → e ≡ slot L s p i → found e ≡ g
+      pub inner-hit : (i : ℕ) (e : Entry) → r ≡ Equal i → e ≡ slot L s p i → Some e ≡ g
       unfolding inner_found
       inner-hit i e k f = cc (lookup-inner p key v h, t, q)
 
-      pub inner-miss : (i : ℕ) (c : Child) → r ≡ Less i → c ≡ child_at L s (child L p i) → c ≡ Absent → nothing ≡ g
+      pub inner-miss : (i : ℕ) (c : Option Position) → r ≡ Less i → c ≡ child_at L s (child L p i) → c ≡ None → None ≡ g
       unfolding inner_found
-      inner-miss i c k e a = cc (lookup-inner p key v h, on-absent nothing (lookup_at L s key (nested M)) (child_at L s (child L p i)) (sym e ∙ a), t, q)
+      inner-miss i c k e a = cc (lookup-inner p key v h, on-absent None (lookup_at L s key (nested M)) (child_at L s (child L p i)) (sym e ∙ a), t, q)
 
-      pub inner-down : (i : ℕ) (c : Child) (w : Position) → r ≡ Less i → c ≡ child_at L s (child L p i) → c ≡ At w → lookup_at L s key (nested M) w.0 ≡ g
+      pub inner-down : (i : ℕ) (c : Option Position) (w : Position) → r ≡ Less i → c ≡ child_at L s (child L p i) → c ≡ Some w → lookup_at L s key (nested M) w.0 ≡ g
       unfolding inner_found
-      inner-down i c w k e a = cc (lookup-inner p key v h, on-at nothing (lookup_at L s key (nested M)) (child_at L s (child L p i)) w (sym e ∙ a), t, q)
+      inner-down i c w k e a = cc (lookup-inner p key v h, on-at None (lookup_at L s key (nested M)) (child_at L s (child L p i)) w (sym e ∙ a), t, q)
 
   -- ---- what the reads of a leaf ask: n is the count that the code reads
 
@@ -167,12 +163,12 @@ module _ (L : Layout) (M : Limits) (s : List ℕ) where
 
 -- ---- the value that is found lies within the bytes
 
-abbrev InRoom : List ℕ → Found → Type 0
-InRoom s (found e) = e.position.0 + 8 ≤ length s
-InRoom s nothing = Unit {0}
+abbrev InRoom : List ℕ → Option Entry → Type 0
+InRoom s (Some e) = e.position.0 + 8 ≤ length s
+InRoom s None = Unit {0}
 
 module _ (L : Layout) (s : List ℕ) where
-  slot-room : (p i : ℕ) → p + head_size L ≤ length s → i < L.entries → InRoom s (found (slot L s p i))
+  slot-room : (p i : ℕ) → p + head_size L ≤ length s → i < L.entries → InRoom s (Some (slot L s p i))
   unfolding slot
   slot-room p i h l = omega arith
 
@@ -181,27 +177,27 @@ module _ (L : Layout) (s : List ℕ) where
   leaf_room p n (Equal i) h m w = slot-room p i h (omega arith)
   leaf_room p n (Less i) h m w = tt
 
-  child-room : (g : ℕ → Found) (f : ℕ) → ((q : ℕ) → LeadsTo L s f q → InRoom s (g q)) → InRoom s (on_child nothing g (child_at L s f))
+  child-room : (g : ℕ → Option Entry) (f : ℕ) → ((q : ℕ) → LeadsTo L s f q → InRoom s (g q)) → InRoom s (on_child None g (child_at L s f))
   unfolding on_child
   child-room g f e = go (child_at L s f) refl
     where
-      go : (c : Child) → child_at L s f ≡ c → InRoom s (on_child nothing g (child_at L s f))
-      go (At q) ec = rw ec (e q.0 (child-leads L s f q ec))
-      go Absent ec = rw ec tt
+      go : (c : Option Position) → child_at L s f ≡ c → InRoom s (on_child None g (child_at L s f))
+      go (Some q) ec = rw ec (e q.0 (child-leads L s f q ec))
+      go None ec = rw ec tt
 
-  inner_room : (g : ℕ → Found) (p : ℕ) (r : Seek) → p + head_size L ≤ length s → Within L.entries r
+  inner_room : (g : ℕ → Option Entry) (p : ℕ) (r : Seek) → p + head_size L ≤ length s → Within L.entries r
       → ((j q : ℕ) → j ≤ L.entries → LeadsTo L s (child L p j) q → InRoom s (g q)) → InRoom s (inner_found L s g p r)
   unfolding inner_found
   inner_room g p (Equal i) h w e = slot-room p i h w
   inner_room g p (Less i) h w e = child-room g (child L p i) (λ q l. e i q w l)
 
-  leaf-part : (key : ℕ) (look : ℕ → Found) (p : ℕ) → LeafNode L s p → InRoom s (lookup_body L s key look p leaf)
+  leaf-part : (key : ℕ) (look : ℕ → Option Entry) (p : ℕ) → LeafNode L s p → InRoom s (lookup_body L s key look p leaf)
   unfolding lookup_body
   leaf-part key look p n =
       let r = n.room in
       rw (slots-seek L s key p (leaf_count L s p) 0) (leaf_room p (leaf_count L s p) _ (omega arith) n.count (seek-within s p key (leaf_count L s p)))
 
-  inner-part : (key : ℕ) (look : ℕ → Found) (p : ℕ) → InnerNode L s p → ((j q : ℕ) → j ≤ L.entries → LeadsTo L s (child L p j) q → InRoom s (look q))
+  inner-part : (key : ℕ) (look : ℕ → Option Entry) (p : ℕ) → InnerNode L s p → ((j q : ℕ) → j ≤ L.entries → LeadsTo L s (child L p j) q → InRoom s (look q))
       → InRoom s (lookup_body L s key look p inner)
   unfolding lookup_body
   inner-part key look p n ih =
@@ -220,27 +216,27 @@ module _ (L : Layout) (s : List ℕ) where
 pub same_place : {a b : ℕ × ℕ} → b.0 ≡ a.0 → b.1 ≡ a.1 → b ≡ a
 same_place {a} {b} e f = ap (λ (x : ℕ). (x, b.1)) e ∙ ap (λ (y : ℕ). (a.0, y)) f
 
-module _ (L : Layout) (M : Limits) (s : List ℕ) (p key : ℕ) (r : Found) (q : r ≡ lookup_at L s key (nested M) p) where
-  pub found-room : (e : Entry) → Node L M s p → r ≡ found e → e.position.0 + 8 ≤ length s
+module _ (L : Layout) (M : Limits) (s : List ℕ) (p key : ℕ) (r : Option Entry) (q : r ≡ lookup_at L s key (nested M) p) where
+  pub found-room : (e : Entry) → Node L M s p → r ≡ Some e → e.position.0 + 8 ≤ length s
   found-room e v k = rw (sym q ∙ k) at (good-room L s key v.level (nested M) v.fits p v.good)
 
   -- ---- the part of the bytes that is handed back: its content, and where it stands
 
-  pub bytes-eight : (e : Entry) → r ≡ found e → take 8 (drop e.position.0 s) ≡ bytes_of s (lookup_at L s key (nested M) p)
+  pub bytes-eight : (e : Entry) → r ≡ Some e → take 8 (drop e.position.0 s) ≡ bytes_of s (lookup_at L s key (nested M) p)
   unfolding bytes_of
   bytes-eight e k = rw (← q, k) refl
 
-  pub bytes-some : (e : Entry) → r ≡ found e → take (e.position.0 + 8 - e.position.0) (drop e.position.0 s) ≡ bytes_of s (lookup_at L s key (nested M) p)
+  pub bytes-some : (e : Entry) → r ≡ Some e → take (e.position.0 + 8 - e.position.0) (drop e.position.0 s) ≡ bytes_of s (lookup_at L s key (nested M) p)
   bytes-some e k = let z : e.position.0 + 8 - e.position.0 ≡ 8 = omega arith in rw z (bytes-eight e k)
 
-  pub bytes-none : r ≡ nothing → [] ≡ bytes_of s (lookup_at L s key (nested M) p)
+  pub bytes-none : r ≡ None → [] ≡ bytes_of s (lookup_at L s key (nested M) p)
   unfolding bytes_of
   bytes-none k = rw (← q, k) refl
 
   -- b is where the part stands, of an archive that stands at a.
   module _ (a b : ℕ × ℕ) (base : b.0 ≡ a.0) where
-    pub place-some : (e : Entry) → r ≡ found e → b.1 ≡ a.1 + e.position.0 → b ≡ place_of a (lookup_at L s key (nested M) p)
+    pub place-some : (e : Entry) → r ≡ Some e → b.1 ≡ a.1 + e.position.0 → b ≡ place_of a (lookup_at L s key (nested M) p)
     place-some e k o = same_place base o ∙ ap (place_of a) (sym k ∙ q)
 
-    pub place_none : r ≡ nothing → b.1 ≡ a.1 → b ≡ place_of a (lookup_at L s key (nested M) p)
+    pub place_none : r ≡ None → b.1 ≡ a.1 → b ≡ place_of a (lookup_at L s key (nested M) p)
     place_none k o = same_place base o ∙ ap (place_of a) (sym k ∙ q)

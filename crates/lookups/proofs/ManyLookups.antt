@@ -6,8 +6,6 @@ use native.Mathlib.Omega.{arith}
 use native.Mathlib.Numerals.{add-one}
 use lib.ListN.{length, get_or, set}
 use Rattle.format.specs.declared.Entry.{Entry}
-use Rattle.format.specs.declared.Found.{Found}
-use Rattle.format.specs.declared.Found.TheVariants.{Entry as found, Nothing as nothing}
 use Rattle.format.specs.Layout.{Layout, Limits, Within, nested, record_size}
 use Rattle.format.specs.Refusal.{gives, refuses}
 use Rattle.format.specs.RelPtr.{at, target}
@@ -18,22 +16,22 @@ use Rattle.lookups.specs.Many.{Many, many, store, first_many, sought, all_many, 
 
 -- ---- one key
 
-pub store_found : (f : Found) (e : Entry) (i : ℕ) (vs : List ℕ) (n : ℕ) → f ≡ found e → many (set vs i e.value) (n + 1) ≡ store f i (many vs n)
+pub store_found : (f : Option Entry) (e : Entry) (i : ℕ) (vs : List ℕ) (n : ℕ) → f ≡ Some e → many (set vs i e.value) (n + 1) ≡ store f i (many vs n)
 unfolding store
 store_found f e i vs n t = rw t refl
 
-pub store_nothing : (f : Found) (i : ℕ) (vs : List ℕ) (n : ℕ) → f ≡ nothing → many vs n ≡ store f i (many vs n)
+pub store_nothing : (f : Option Entry) (i : ℕ) (vs : List ℕ) (n : ℕ) → f ≡ None → many vs n ≡ store f i (many vs n)
 unfolding store
 store_nothing f i vs n t = rw t refl
 
-store-most : (f : Found) (i k : ℕ) (m : Many) → m.found ≤ k → (store f i m).found ≤ suc k
+store-most : (f : Option Entry) (i k : ℕ) (m : Many) → m.found ≤ k → (store f i m).found ≤ suc k
 unfolding store
-store-most (found e) i k m h = omega arith
-store-most nothing i k m h = omega arith
+store-most (Some e) i k m h = omega arith
+store-most None i k m h = omega arith
 
 -- ---- the keys so far
 
-module _ (look : ℕ → Found) (ks vs : List ℕ) where
+module _ (look : ℕ → Option Entry) (ks vs : List ℕ) where
   pub first-none : many vs 0 ≡ first_many look ks vs 0
   unfolding first_many
   first-none = refl
@@ -59,13 +57,13 @@ module _ (look : ℕ → Found) (ks vs : List ℕ) where
     first-all m em h g = let z : i ≡ sought ks vs = omega arith in e ∙ ap (first_many look ks vs) z
 
 -- Lookups that agree leave the same.
-same_first : (f g : ℕ → Found) → ((k : ℕ) → f k ≡ g k) → (ks vs : List ℕ) (n : ℕ) → first_many f ks vs n ≡ first_many g ks vs n
+same_first : (f g : ℕ → Option Entry) → ((k : ℕ) → f k ≡ g k) → (ks vs : List ℕ) (n : ℕ) → first_many f ks vs n ≡ first_many g ks vs n
 unfolding first_many
 same_first f g h ks vs zero = refl
 same_first f g h ks vs (suc n) =
-    ap (λ (x : Found). store x n (first_many f ks vs n)) (h (get_or ks n 0)) ∙ ap (store (g (get_or ks n 0)) n) (same_first f g h ks vs n)
+    ap (λ (x : Option Entry). store x n (first_many f ks vs n)) (h (get_or ks n 0)) ∙ ap (store (g (get_or ks n 0)) n) (same_first f g h ks vs n)
 
-none_found : (ks vs : List ℕ) (n : ℕ) → first_many (λ k. nothing) ks vs n ≡ many vs 0
+none_found : (ks vs : List ℕ) (n : ℕ) → first_many (λ k. None) ks vs n ≡ many vs 0
 unfolding first_many store
 none_found ks vs zero = refl
 none_found ks vs (suc n) = none_found ks vs n
@@ -109,7 +107,7 @@ module _ (L : Layout) (M : Limits) (s : List ℕ) where
     unfolding many_values
     values-accepted = rw ((gives-inv (check_archive L M s) n e).1, many_values)
 
-    module _ (look : ℕ → Found) (same : (k : ℕ) → lookup L M s k ≡ look k) (us : List ℕ) (m : ℕ) (w : many us m ≡ all_many look ks vs) where
+    module _ (look : ℕ → Option Entry) (same : (k : ℕ) → lookup L M s k ≡ look k) (us : List ℕ) (m : ℕ) (w : many us m ≡ all_many look ks vs) where
       all : all_many (lookup L M s) ks vs ≡ many us m
       all = same_first (lookup L M s) look same ks vs (sought ks vs) ∙ sym w
 
@@ -120,14 +118,14 @@ module _ (L : Layout) (M : Limits) (s : List ℕ) where
       leaves = values-accepted ∙ ap (λ (x : Many). x.values) all
 
     module _ (z : n ≡ 0) where
-      nowhere : (k : ℕ) → lookup L M s k ≡ nothing
+      nowhere : (k : ℕ) → lookup L M s k ≡ None
       nowhere k = gives_one _ _ (sym (lookup-accepted L M s n e k) ∙ lookup-none L M s n e z k)
 
       pub many-none : many_call L M s ks vs ≡ gives 0
-      many-none = answers (λ k. nothing) nowhere vs 0 (sym (none_found ks vs (sought ks vs)))
+      many-none = answers (λ k. None) nowhere vs 0 (sym (none_found ks vs (sought ks vs)))
 
       pub many-values-none : many_values L M s ks vs ≡ vs
-      many-values-none = leaves (λ k. nothing) nowhere vs 0 (sym (none_found ks vs (sought ks vs)))
+      many-values-none = leaves (λ k. None) nowhere vs 0 (sym (none_found ks vs (sought ks vs)))
 
     module _ (z : n ≡ 0 → ⊥) (q : ℕ) (t : target L s (length s - record_size L) ≡ at q) {M' : Limits} (within : Within M M') (us : List ℕ) (m : ℕ)
         (w : many us m ≡ all_many (λ k. lookup_at L s k (nested M') q) ks vs) where

@@ -1,7 +1,6 @@
 -- Many lookups after one check: key by key, a value that is found goes to the place of its key. Assumes nothing: these are definitions.
-use Rattle.std.specs.Prelude.{ℕ, zero, suc, ◌+◌, min, List, length, get_or, set}
-use Rattle.format.specs.declared.Found.{Found}
-use Rattle.format.specs.declared.Found.TheVariants.{Entry as found, Nothing as nothing}
+use Rattle.std.specs.Prelude.{ℕ, zero, suc, ◌+◌, min, List, length, get_or, set, None, Option, Some}
+use Rattle.format.specs.declared.Entry.{Entry}
 use Rattle.format.specs.Layout.{Layout, Limits}
 use Rattle.format.specs.Refusal.{Answer, gives, refuses}
 use Rattle.format.specs.Check.{accepted, refused, check_archive}
@@ -16,12 +15,12 @@ abbrev pub many : List ℕ → ℕ → Many
 many vs n = record { values = vs; found = n }
 
 -- What the lookup of the key at place i leaves.
-unfoldable pub store : Found → ℕ → Many → Many
-store (found e) i m = many (set m.values i e.value) (m.found + 1)
-store nothing i m = m
+unfoldable pub store : Option Entry → ℕ → Many → Many
+store (Some e) i m = many (set m.values i e.value) (m.found + 1)
+store None i m = m
 
 -- What the first n keys leave, each found or not as `look` says.
-unfoldable pub first_many : (ℕ → Found) → List ℕ → List ℕ → ℕ → Many
+unfoldable pub first_many : (ℕ → Option Entry) → List ℕ → List ℕ → ℕ → Many
 first_many look ks vs zero = many vs 0
 first_many look ks vs (suc n) = store (look (get_or ks n 0)) n (first_many look ks vs n)
 
@@ -30,7 +29,7 @@ abbrev pub sought : List ℕ → List ℕ → ℕ
 sought ks vs = min (length ks) (length vs)
 
 -- What all of them leave.
-abbrev pub all_many : (ℕ → Found) → List ℕ → List ℕ → Many
+abbrev pub all_many : (ℕ → Option Entry) → List ℕ → List ℕ → Many
 all_many look ks vs = first_many look ks vs (sought ks vs)
 
 module _ (L : Layout) (M : Limits) (s ks vs : List ℕ) where

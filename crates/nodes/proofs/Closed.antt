@@ -5,8 +5,8 @@ use Prim.Native.Nat.{ℕ, zero, suc, ◌+◌, ◌-◌, ◌*◌, ◌/◌, ◌^◌
 use native.Mathlib.Nat.{suc-ne-zero, suc_inj}
 use native.Mathlib.Omega.{arith}
 use lib.ListN.{length, get_or, replicate, take, drop, length-append, length-take, length-drop}
-use Rattle.format.specs.declared.Child.{Child}
 use Rattle.format.specs.Layout.{Width, two, four, eight, Layout, bytes, pointer, head_size, leaf_size, inner_size}
+use Rattle.format.specs.declared.Position.{Position}
 use Rattle.format.specs.Bytes.{le_bytes, put}
 use Rattle.format.specs.Tree.{KeyValue, Slot, column, head, offset_bytes, lesser_bytes, leaf_bytes, inner_bytes}
 use Rattle.format.specs.Build.{pairs}
@@ -127,7 +127,7 @@ length-lessers L f (suc n) (c ∷ cs) h =
     ∙ omega (arith, length-offset L f (child_at c), length-lessers L (f + pointer L) n cs (omega arith))
 
 -- With the numbers that the calls answer: the head's size h, the width w, the node's size n, and the bits v of the greater child's offset.
-pub inner-closed : (L : Layout) (s : List ℕ) (p h w n v : ℕ) (ks vs is cs : List ℕ) (g : Child) {o₁ o₂ o₃ o₄ o₅ : List ℕ} → let e = L.entries in
+pub inner-closed : (L : Layout) (s : List ℕ) (p h w n v : ℕ) (ks vs is cs : List ℕ) (g : Option Position) {o₁ o₂ o₃ o₄ o₅ : List ℕ} → let e = L.entries in
     e ≤ length is → e ≤ length cs → h ≡ head_size L → w ≡ pointer L → n ≡ inner_size L → le_bytes (pointer L) v ≡ offset_bytes L (p + h + w * e) g
     → o₁ ≡ put s p (le_bytes 8 1) → o₂ ≡ put (put o₁ (p + 8) (words e (picked ks is))) (p + 8 + 8 * e) (words e (picked vs is))
     → o₃ ≡ put o₂ (p + h) (lessers_bytes L (p + h) e cs) → o₄ ≡ put o₃ (p + h + w * e) (le_bytes (pointer L) v)

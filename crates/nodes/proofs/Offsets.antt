@@ -10,7 +10,6 @@ use lib.IntN.{ℤ, pos, negsuc}
 use lib.ListN.{length, get_or, drop}
 use lib.Seq.{drop-cons}
 use lib.Signed.{mag}
-use Rattle.format.specs.declared.Child.TheVariants.{At}
 use Rattle.format.specs.Layout.{Width, two, four, eight, Layout, bytes, sign_bits, pointer}
 use Rattle.format.specs.Bytes.{le_bytes, put}
 use Rattle.format.specs.Signed.{twos}
@@ -46,12 +45,12 @@ module _ (L : Layout) (f n m : ℕ) (some : n ≡ 0 → ⊥) (all : m ≡ 2 ^ su
   limit : m / 2 + 1 ≡ 2 ^ sign_bits L.width
   limit = rw all (half L.width).0
 
-  child-some : child_at n ≡ At (record { 0 = n - 1 })
+  child-some : child_at n ≡ Some (record { 0 = n - 1 })
   child-some = by n some
     where
-      by : (n : ℕ) → (n ≡ 0 → ⊥) → child_at n ≡ At (record { 0 = n - 1 })
+      by : (n : ℕ) → (n ≡ 0 → ⊥) → child_at n ≡ Some (record { 0 = n - 1 })
       by zero h = absurd (h refl)
-      by (suc p) h = ap (λ (i : ℕ). At (record { 0 = i })) (omega arith)
+      by (suc p) h = ap (λ (i : ℕ). Some (record { 0 = i })) (omega arith)
 
   fits : (z : ℤ) → signed_offset f (n - 1) ≡ fit_signed 63 15 z → mag z ≤ m / 2
       → le_bytes (pointer L) (twos (sign_bits L.width) z) ≡ offset_bytes L f (child_at n)

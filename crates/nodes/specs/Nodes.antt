@@ -1,15 +1,14 @@
 -- What the numbers of an open inner node stand for, and runs of words. Assumes nothing: these are definitions.
-use Rattle.std.specs.Prelude.{ℕ, zero, suc, ◌+◌, ◌<◌, List, [], ◌∷◌, ◌++◌, get_or}
+use Rattle.std.specs.Prelude.{ℕ, zero, suc, ◌+◌, ◌<◌, List, [], ◌∷◌, ◌++◌, get_or, None, Option, Some}
+use Rattle.format.specs.declared.Position.{Position}
 use Rattle.format.specs.Layout.{Layout, pointer}
 use Rattle.format.specs.Tree as tree
 use Rattle.format.specs.Tree.{column, offset_bytes}
-use Rattle.format.specs.declared.Child.{Child}
-use Rattle.format.specs.declared.Child.TheVariants.{Absent, At}
 
 -- The child that a number stands for.
-abbrev pub child_at : ℕ → Child
-child_at zero = Absent
-child_at (suc p) = At (record { 0 = p })
+abbrev pub child_at : ℕ → Option Position
+child_at zero = None
+child_at (suc p) = Some (record { 0 = p })
 
 -- n words: those of the list, then zeros.
 abbrev pub words : ℕ → List ℕ → List ℕ

@@ -2,7 +2,7 @@
 use Rattle.std.specs.Prelude.{ℤ}
 use Rattle.format.specs.Refusal.{Answer, gives, refuses, number}
 use Rattle.format.specs.RelPtr as RelPtr
-use Rattle.format.specs.Align.{Step}
+use Rattle.format.specs.declared.Step.{Step}
 use Rattle.offsets.specs.declared.rel_ptr.Distance.{Distance}
 use Rattle.offsets.specs.declared.rel_ptr.Distance.TheVariants as distance
 use Rattle.offsets.specs.declared.rel_ptr.Stored.{Stored}

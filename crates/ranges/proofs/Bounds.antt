@@ -6,8 +6,7 @@ use native.Mathlib.Nat.{suc-mul, mul-le-mul_left, pow-succ', one-le-pow}
 use native.Mathlib.Omega.{arith}
 use lib.ListN.{length, length-append}
 use Rattle.format.specs.declared.Entry.{Entry}
-use Rattle.format.specs.declared.Child.{Child}
-use Rattle.format.specs.declared.Child.TheVariants.{At, Absent}
+use Rattle.format.specs.declared.Position.{Position}
 use Rattle.format.specs.Layout.{Layout, Limits, nested}
 use Rattle.format.specs.Node.{child, leaf_count}
 use Rattle.format.specs.Entries.{list_child, list_children, list_body, list_at}
@@ -21,9 +20,9 @@ module _ (L : Layout) (s : List ℕ) where
     unfolding on_child
     child-few f h = rw (list-child L s give f) (go (child_at L s f) refl)
       where
-        go : (c : Child) → child_at L s f ≡ c → length (on_child [] give c) < b
-        go (At q) e = h q.0 (child-leads L s f q e)
-        go Absent e = some
+        go : (c : Option Position) → child_at L s f ≡ c → length (on_child [] give c) < b
+        go (Some q) e = h q.0 (child-leads L s f q e)
+        go None e = some
 
     children-few : (p k i : ℕ) → i + k ≤ L.entries → ((j q : ℕ) → j ≤ L.entries → LeadsTo L s (child L p j) q → length (give q) < b)
         → length (list_children L s give p k i) < suc k * b

@@ -9,7 +9,7 @@ use lib.ListN.{length}
 use lib.Dec.{leb}
 use borrow.Author.Tests.{le-leb, lt-leb}
 use Rattle.format.specs.declared.Entry.{Entry}
-use Rattle.format.specs.declared.Ends.TheVariants.{Keys}
+use Rattle.format.specs.Range.{from_to}
 use Rattle.format.specs.Certify.{Ascending}
 use Rattle.format.specs.Range.{held, select}
 use Rattle.format.specs.Written.{written, Out, out, put, runs, fill, walked}
@@ -50,21 +50,21 @@ counted (e ∷ es) ks vs n = go (dec_lt n (min (length ks) (length vs))) (counte
 module _ (least greatest : ℕ) where
   -- ---- one entry
 
-  step-held : (e : Entry) (o : Out) → held (Keys least greatest) e ≡ true → range_step least greatest e o ≡ taken e o
+  step-held : (e : Entry) (o : Out) → held (from_to least greatest) e ≡ true → range_step least greatest e o ≡ taken e o
   unfolding range_step
   step-held e o h = rw (h, range_step)
 
-  step_other : (e : Entry) (o : Out) → held (Keys least greatest) e ≡ false → range_step least greatest e o ≡ o
+  step_other : (e : Entry) (o : Out) → held (from_to least greatest) e ≡ false → range_step least greatest e o ≡ o
   unfolding range_step
   step_other e o h = rw (h, range_step)
 
-  below-least : (e : Entry) → e.key < least → held (Keys least greatest) e ≡ false
+  below-least : (e : Entry) → e.key < least → held (from_to least greatest) e ≡ false
   below-least e h = rw (lt-leb least e.key h)
 
-  past-greatest : (e : Entry) → greatest < e.key → held (Keys least greatest) e ≡ false
+  past-greatest : (e : Entry) → greatest < e.key → held (from_to least greatest) e ≡ false
   past-greatest e h = by (leb least e.key) refl
     where
-      by : (b : Bool) → leb least e.key ≡ b → held (Keys least greatest) e ≡ false
+      by : (b : Bool) → leb least e.key ≡ b → held (from_to least greatest) e ≡ false
       by true m = rw m (lt-leb e.key greatest h)
       by false m = rw m
 
@@ -76,27 +76,27 @@ module _ (least greatest : ℕ) where
 
   -- ---- the closed form
 
-  runs-select : (es : List Entry) (o : Out) → ranged least greatest es o ≡ runs taken (select (held (Keys least greatest)) es) o
+  runs-select : (es : List Entry) (o : Out) → ranged least greatest es o ≡ runs taken (select (held (from_to least greatest)) es) o
   unfolding runs
   runs-select [] o = refl
-  runs-select (e ∷ es) o = by (held (Keys least greatest) e) refl (runs-select es)
+  runs-select (e ∷ es) o = by (held (from_to least greatest) e) refl (runs-select es)
     where
-      by : (b : Bool) → held (Keys least greatest) e ≡ b
-          → ((u : Out) → ranged least greatest es u ≡ runs taken (select (held (Keys least greatest)) es) u)
-          → ranged least greatest (e ∷ es) o ≡ runs taken (select (held (Keys least greatest)) (e ∷ es)) o
+      by : (b : Bool) → held (from_to least greatest) e ≡ b
+          → ((u : Out) → ranged least greatest es u ≡ runs taken (select (held (from_to least greatest)) es) u)
+          → ranged least greatest (e ∷ es) o ≡ runs taken (select (held (from_to least greatest)) (e ∷ es)) o
       by true eb ih = rw (step-held e o eb, eb, select) (ih (taken e o))
       by false eb ih = rw (step_other e o eb, eb, select) (ih o)
 
-  count : (es : List Entry) (ks vs : List ℕ) (n : ℕ) → let found = select (held (Keys least greatest)) es in
+  count : (es : List Entry) (ks vs : List ℕ) (n : ℕ) → let found = select (held (from_to least greatest)) es in
       ranged least greatest es (out ks vs n) ≡ out (fill found (out ks vs n)).keys (fill found (out ks vs n)).values (n + length found)
-  count es ks vs n = runs-select es (out ks vs n) ∙ counted (select (held (Keys least greatest)) es) ks vs n
+  count es ks vs n = runs-select es (out ks vs n) ∙ counted (select (held (from_to least greatest)) es) ks vs n
 
   -- From the first place of both lists on: m match, and w are written.
   pub range-written : (es : List Entry) (ks vs : List ℕ) {ks' vs' : List ℕ} {m room w : ℕ} → out ks' vs' m ≡ ranged least greatest es (out ks vs 0)
       → length ks' ≡ length ks → length vs' ≡ length vs → room ≡ min (length ks') (length vs') → w ≡ min m room
-      → (out ks' vs' w ≡ walked (select (held (Keys least greatest)) es) ks vs) × (m ≡ length (select (held (Keys least greatest)) es))
+      → (out ks' vs' w ≡ walked (select (held (from_to least greatest)) es) ks vs) × (m ≡ length (select (held (from_to least greatest)) es))
   range-written es ks vs {ks'} {vs'} {m} {room} {w} e ek ev er ew =
-      let found = select (held (Keys least greatest)) es in
+      let found = select (held (from_to least greatest)) es in
       let all = e ∙ count es ks vs 0 in
       let n : m ≡ 0 + length found = ap (λ (o : Out). o.at) all in
       let z : w ≡ written found ks vs = omega arith in
@@ -104,18 +104,18 @@ module _ (least greatest : ℕ) where
 
   -- ---- the number matching
 
-  ranged-at : (es : List Entry) (o : Out) → (ranged least greatest es o).at ≡ o.at + length (select (held (Keys least greatest)) es)
+  ranged-at : (es : List Entry) (o : Out) → (ranged least greatest es o).at ≡ o.at + length (select (held (from_to least greatest)) es)
   ranged-at es o = ap (λ (u : Out). u.at) (count es o.keys o.values o.at)
 
   -- What a part of the entries comes to fits where all of them do: the number matching never falls.
   pub part-fits : (l r es₀ : List Entry) (o o₀ : Out) (top : ℕ) → ranged least greatest (l ++ r) o ≡ ranged least greatest es₀ o₀
-      → o₀.at + length (select (held (Keys least greatest)) es₀) < top → o.at + length (select (held (Keys least greatest)) l) < top
+      → o₀.at + length (select (held (from_to least greatest)) es₀) < top → o.at + length (select (held (from_to least greatest)) l) < top
   part-fits l r es₀ o o₀ top e f =
       let w = ap (λ (u : Out). u.at) (sym (runs_append (range_step least greatest) l r o) ∙ e) in
       omega (arith, ranged-at l o, ranged-at r (ranged least greatest l o), ranged-at es₀ o₀)
 
   -- Where nothing matches, all stays.
-  none-match : (es : List Entry) (o : Out) → select (held (Keys least greatest)) es ≡ [] → ranged least greatest es o ≡ o
+  none-match : (es : List Entry) (o : Out) → select (held (from_to least greatest)) es ≡ [] → ranged least greatest es o ≡ o
   none-match es o h = runs-select es o ∙ rw h (runs_none taken o)
 
   -- ---- an ascending list w, which is split at e with the key k: o is the state before w, o₁ before e
@@ -139,7 +139,7 @@ module _ (least greatest : ℕ) where
           let none = select-above _ e.key (λ x u. past-greatest x (omega arith)) r parts.above in
           sym (none-match r o₁ none) ∙ (rw (step_other e o₁ (past-greatest e (omega arith))) at (from o₁ t))
 
-      pub one-fits : (top : ℕ) → o₀.at + length (select (held (Keys least greatest)) es₀) < top → least ≤ k → k ≤ greatest → o₁.at + 1 < top
+      pub one-fits : (top : ℕ) → o₀.at + length (select (held (from_to least greatest)) es₀) < top → least ≤ k → k ≤ greatest → o₁.at + 1 < top
       unfolding taken
       one-fits top f h n =
           let u = part-fits [] r es₀ (taken e o₁) o₀ top (rw (step_in e o₁ (omega arith) (omega arith)) at (from o₁ t)) f in

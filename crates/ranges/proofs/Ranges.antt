@@ -7,10 +7,8 @@ use native.Mathlib.Nat.{pow-le-pow_left}
 use native.Mathlib.Omega.{arith}
 use lib.ListN.{length, get_or}
 use Rattle.format.specs.declared.Entry.{Entry}
+use Rattle.format.specs.Range.{from_to}
 use Rattle.format.specs.declared.Position.{Position}
-use Rattle.format.specs.declared.Ends.TheVariants.{Keys}
-use Rattle.format.specs.declared.Child.{Child}
-use Rattle.format.specs.declared.Child.TheVariants.{At}
 use Rattle.format.specs.Layout.{Layout, Limits, server, nested}
 use Rattle.format.specs.Bytes.{le_at}
 use Rattle.format.specs.Node.{child, key_at, leaf_count, slot}
@@ -30,7 +28,7 @@ use Rattle.ranges.proofs.EntryByEntry.{put-taken, step_in, step-low, part-fits}
 
 -- The entries ascend, and with those that match among them n stays below a bound.
 abbrev pub Fits : ℕ → ℕ → ℕ → ℕ → List Entry → Type 0
-Fits least greatest top n es = Ascending es × (n + length (select (held (Keys least greatest)) es) < top)
+Fits least greatest top n es = Ascending es × (n + length (select (held (from_to least greatest)) es) < top)
 
 -- A key below the least is that of one of n slots: where no slot follows child i, k is the greatest of all keys.
 pub slot-there : {n i k least : ℕ} → (n ≤ i → k + 1 ≡ 2 ^ 64) → k < least → least < 2 ^ 64 → i < n
@@ -120,7 +118,7 @@ module _ (L : Layout) (s : List ℕ) where
 
       module _ (least greatest top : ℕ) (o o₀ : Out) (es₀ : List Entry) (h : i ≤ L.entries) (a : Ascending (rest p i))
           (e : ranged least greatest (rest p i) o ≡ ranged least greatest es₀ o₀)
-          (f : o₀.at + length (select (held (Keys least greatest)) es₀) < top) where
+          (f : o₀.at + length (select (held (from_to least greatest)) es₀) < top) where
         part : Dec (i < L.entries) → Fits least greatest top o.at (at-child p i)
         part (yes k) = ((parts k a).left, part-fits least greatest (at-child p i) (slot L s p i ∷ rest p (i + 1)) es₀ o o₀ top (rw (rest_more k) at e) f)
         part (no k) =
@@ -128,7 +126,7 @@ module _ (L : Layout) (s : List ℕ) where
             (rw z at a, part-fits least greatest (at-child p i) [] es₀ o o₀ top (rw (append-nil (at-child p i), ← z) e) f)
 
         -- r is what was read of the child.
-        pub child_fits : {r : Child} {q : Position} → r ≡ child_at L s (child L p i) → r ≡ At q
+        pub child_fits : {r : Option Position} {q : Position} → r ≡ child_at L s (child L p i) → r ≡ Some q
             → Fits least greatest top o.at (list_at L s (nested M) q.0)
         child_fits c k =
             subst (Fits least greatest top o.at) (on-at [] (list_at L s (nested M)) (child_at L s (child L p i)) _ (sym c ∙ k)) (part (dec_lt i L.entries))
@@ -144,8 +142,8 @@ none_written es ks vs e = rw e (sym (none-walked ks vs), refl)
 
 -- No node that the readers may read has 16 ^ 14 entries.
 pub node-fits : (least greatest : ℕ) (L : Layout) (s : List ℕ) {p : ℕ} → L.entries ≤ 15 → Node L server s p
-    → 0 + length (select (held (Keys least greatest)) (list_at L s (nested server) p)) < 2 ^ 64
+    → 0 + length (select (held (from_to least greatest)) (list_at L s (nested server) p)) < 2 ^ 64
 unfolding nested server
 node-fits least greatest L s {p} l v =
     let most : suc L.entries ^ 14 ≤ 16 ^ 14 = pow-le-pow_left {m = 16} (omega arith) 14 in
-    omega (arith, node-few L s server v, select-few (held (Keys least greatest)) (list_at L s (nested server) p))
+    omega (arith, node-few L s server v, select-few (held (from_to least greatest)) (list_at L s (nested server) p))

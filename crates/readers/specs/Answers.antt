@@ -1,9 +1,9 @@
 -- What the calls' answers say in document 01's terms: values, or the number of a refusal. Assumes nothing: these are definitions.
-use Rattle.std.specs.Prelude.{ℕ}
+use Rattle.std.specs.Prelude.{ℕ, None, Option, Some}
+use Rattle.format.specs.declared.Entry.{Entry}
 use Rattle.format.specs.Refusal.{Answer, gives, refuses, number}
-use Rattle.format.specs.Calls.{Walk, Matched}
-use Rattle.format.specs.declared.Found.{Found}
-use Rattle.format.specs.declared.Found.TheVariants.{Entry as found, Nothing as nothing}
+use Rattle.format.specs.declared.Matched.{Matched}
+use Rattle.format.specs.declared.Walk.{Walk}
 use Rattle.readers.specs.declared.LookupAnswer.{LookupAnswer}
 use Rattle.readers.specs.declared.LookupAnswer.TheVariants as lookup
 use Rattle.readers.specs.declared.WalkAnswer.{WalkAnswer}
@@ -14,9 +14,9 @@ use Rattle.readers.specs.declared.ManyAnswer.{ManyAnswer}
 use Rattle.readers.specs.declared.ManyAnswer.TheVariants as many
 
 -- The entry, or that there is none.
-abbrev pub lookup_of : LookupAnswer → Answer Found
-lookup_of (lookup.Entry e) = gives (found e)
-lookup_of lookup.Nothing = gives nothing
+abbrev pub lookup_of : LookupAnswer → Answer (Option Entry)
+lookup_of (lookup.Entry e) = gives (Some e)
+lookup_of lookup.Nothing = gives None
 lookup_of (lookup.Refused r) = refuses (number r)
 
 -- The number written and the recorded count.

@@ -5,8 +5,8 @@ use mathlib.Core.List.{List, [], ◌∷◌, ◌++◌, append_assoc}
 use native.Mathlib.Omega.{arith}
 use native.Mathlib.Nat.{suc-ne-zero, suc_inj}
 use lib.ListN.{length, get_or, drop}
-use Rattle.format.specs.declared.Child.{Child}
 use Rattle.format.specs.Layout.{Layout}
+use Rattle.format.specs.declared.Position.{Position}
 use Rattle.format.specs.Bytes.{put}
 use Rattle.format.specs.Tree.{Slot, slot_of, Branch, length_branches, length_branch, child_of, slots_of, greater_of, write_branches, write_branch, KeyValue}
 use Rattle.format.specs.Build.{Filled, FilledBranches, fill_next, fill_branches, pairs}
@@ -28,7 +28,7 @@ entry_next (suc i) (x ∷ a) (y ∷ b) h e = entry_next i a b (omega arith) (suc
 pub record Ends : Type 0 where
   pub bytes : List ℕ
   pub slots : List Slot
-  pub greater : Child
+  pub greater : Option Position
   pub at : ℕ
   pub rest : List KeyValue
   pub last : ℕ
@@ -54,7 +54,7 @@ module _ (L : Layout) where
       ∙ ap (λ (n : ℕ). put (put out p (write_branch L b p)) n bs) (sym h)
       ∙ ap (λ (o : List ℕ). put o q bs) (sym e)
 
-  same_ends : {b b' : List ℕ} {s s' : List Slot} {g g' : Child} {a a' : ℕ} {r : List KeyValue} {l : ℕ} → b ≡ b' → s ≡ s' → g ≡ g' → a ≡ a'
+  same_ends : {b b' : List ℕ} {s s' : List Slot} {g g' : Option Position} {a a' : ℕ} {r : List KeyValue} {l : ℕ} → b ≡ b' → s ≡ s' → g ≡ g' → a ≡ a'
       → ◌≡◌ {A = Ends} (record { bytes = b; slots = s; greater = g; at = a; rest = r; last = l })
       (record { bytes = b'; slots = s'; greater = g'; at = a'; rest = r; last = l })
   same_ends h i j k = rw (h, i, j, k)
@@ -65,7 +65,7 @@ module _ (L : Layout) where
     ends n out ss p m es = ends_by (fill_branches give n m es) out ss p
 
     -- An entry after a child, and what is left.
-    ends_next : (n : ℕ) (c : Filled) (e : KeyValue) (es : List KeyValue) (out out' : List ℕ) (ss : List Slot) (k : Child) (p q m : ℕ)
+    ends_next : (n : ℕ) (c : Filled) (e : KeyValue) (es : List KeyValue) (out out' : List ℕ) (ss : List Slot) (k : Option Position) (p q m : ℕ)
         → out' ≡ put out p (write_branch L c.branch p) → k ≡ child_of L c.branch p → q ≡ p + length_branch L c.branch → m ≡ c.last
         → ends_by (fill_next (fill_branches give n) c (e ∷ es)) out ss p ≡ ends n out' (ss ++ (slot_of e k ∷ [])) q m es
     ends_next n c e es out out' ss k p q m eo ek eq em =
@@ -73,7 +73,7 @@ module _ (L : Layout) where
         let next = p + length_branch L c.branch in
         same_ends
         (put_on c.branch out out' p q (write_branches L bs next) eo eq ∙ ap (λ (x : ℕ). put out' q (write_branches L bs x)) (sym eq))
-        (ap (λ (x : Child). ss ++ (slot_of e x ∷ slots_of L bs next)) (sym ek)
+        (ap (λ (x : Option Position). ss ++ (slot_of e x ∷ slots_of L bs next)) (sym ek)
         ∙ ap (λ (x : ℕ). ss ++ (slot_of e k ∷ slots_of L bs x)) (sym eq)
         ∙ sym (append_assoc ss (slot_of e k ∷ []) (slots_of L bs q)))
         (ap (greater_of L bs) (sym eq))

@@ -5,9 +5,8 @@ use mathlib.Core.List.{List}
 use native.Mathlib.Omega.{arith}
 use lib.ListN.{length, take}
 use lib.Seq.{drop-drop, length-sets}
-use Rattle.format.specs.declared.Child.{Child}
-use Rattle.format.specs.declared.Child.TheVariants.{At}
 use Rattle.format.specs.Layout.{Layout, leaf_size, inner_size}
+use Rattle.format.specs.declared.Position.{Position}
 use Rattle.format.specs.Bytes.{put}
 use Rattle.format.specs.Tree.{Slot, leaf_bytes, inner_bytes, length_branches, length_branch, slots_of, greater_of, write_branches, KeyValue}
 use Rattle.format.specs.Build.{Filled, FilledBranches, closed, fill_branches, fill_leaf, fill, pairs}
@@ -23,7 +22,7 @@ use Rattle.serialize.specs.Wrote.{most, from, Ready, ReadyAll, Wrote, Grew}
 abbrev pub after : ℕ → ℕ → ℕ → ℕ → Place
 after p n next last = record { child = record { 0 = p + 1 }; next = next; last = last; at = record { 0 = p + n } }
 
-closed-child : (p : ℕ) → child_at (p + 1) ≡ At (record { 0 = p })
+closed-child : (p : ℕ) → child_at (p + 1) ≡ Some (record { 0 = p })
 closed-child p = let e : p + 1 ≡ suc p = omega arith in rw e
 
 pub not_none : (m : ℕ) → (m ≡ 0 → ⊥) → 0 < m
@@ -105,11 +104,11 @@ module _ (L : Layout) (ks vs : List ℕ) where
             e
             ∙ ap (λ (n : ℕ). put out n (inner_bytes L n (slots_in L.entries ks vs q.node.places q.node.lessers) g)) G.at
             ∙ ap (λ (x : List Slot). put out t (inner_bytes L t x g)) G.slots
-            ∙ ap (λ (x : Child). put out t (inner_bytes L t (slots_of L bs p.at.0) x)) G.greater
+            ∙ ap (λ (x : Option Position). put out t (inner_bytes L t (slots_of L bs p.at.0) x)) G.greater
             ∙ ap (λ (o : List ℕ). put o t own) G.bytes
             ∙ ap (λ (n : ℕ). put (put out₀ p.at.0 below) (p.at.0 + n) own) (sym (length-write_branches L bs p.at.0))
             ∙ sym (put-append out₀ p.at.0 below own);
-        child = closed-child q.here.at.0 ∙ ap (λ (n : ℕ). At (record { 0 = n })) G.at;
+        child = closed-child q.here.at.0 ∙ ap (λ (n : ℕ). Some (record { 0 = n })) G.at;
         at = omega (arith, G.at, en);
         rest = G.rest;
         next = G.next;

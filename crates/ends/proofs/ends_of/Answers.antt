@@ -1,16 +1,16 @@
 -- The keys that meet the upper bound are those up to `greatest`, and those that meet the lower one are those from `least` on.
 use Rattle.std.proofs.Common.{◌≡◌, ℕ, ◌+◌, ◌≤◌, ◌<◌, refl, sym, ap, arith}
-use Rattle.format.specs.declared.Ends.TheVariants.{Keys, Nothing}
-use Rattle.format.specs.declared.Bound.{Bound}
+use Rattle.format.specs.Range.{from_to}
+use Rattle.std.specs.declared.ops.Bound.{Bound}
 use Rattle.format.specs.Range.{least_of, past_of, ends_of}
 use Rattle.format.proofs.Laws.Range.Ends.{ends-nothing, ends-keys, excluded-at-0-above}
 use Rattle.ends.proofs.ends_of.Goals as goal
 use Rattle.ends.proofs.ends_of.Goals.{in-Unbounded, in-Included, in-Excluded+else-ub-eq0}
 
-crossed : (lower upper : Bound) (g least : ℕ) → past_of upper ≡ g + 1 → least_of lower ≡ least → g < least → Nothing ≡ ends_of lower upper
+crossed : (lower upper : Bound ℕ) (g least : ℕ) → past_of upper ≡ g + 1 → least_of lower ≡ least → g < least → None ≡ ends_of lower upper
 crossed lower upper g least u l h = sym (ends-nothing _ _ (omega arith))
 
-given : (lower upper : Bound) (g least : ℕ) → past_of upper ≡ g + 1 → least_of lower ≡ least → least ≤ g → Keys least g ≡ ends_of lower upper
+given : (lower upper : Bound ℕ) (g least : ℕ) → past_of upper ≡ g + 1 → least_of lower ≡ least → least ≤ g → from_to least g ≡ ends_of lower upper
 given lower upper g least u l h = sym (ends-keys _ _ _ _ l u h)
 
 pub returns-then-ub-eq0 : goal.returns-then-ub-eq0

@@ -1,7 +1,7 @@
 -- Document 02, N12, "The waiting-room viewer", as theorems. The words in quotes are its own. Assumes nothing.
 use Rattle.std.specs.Prelude.{ℕ, ◌≤◌, ◌<◌, ◌≡◌, refl, true, List, ◌↔◌, ℤ, length, take}
 use Rattle.std.proofs.Common.{sym, ap, subst, arith}
-use Rattle.format.specs.declared.Bound.{Bound}
+use Rattle.std.specs.declared.ops.Bound.{Bound}
 use Rattle.format.specs.declared.Packing.{Packing}
 use Rattle.format.specs.Layout.{Layout, layout32, entries_in_range, Limits, viewer, server, counts_as, Within, nested}
 use Rattle.format.specs.Refusal.{gives, refuses, OfLimits}
@@ -97,9 +97,9 @@ pub record SameReading (L : Layout) (M M' : Limits) (s : List ℕ) (n : ℕ) : T
   pub lookup : (k : ℕ) → lookup_call L M s k ≡ lookup_call L M' s k
   pub part : (k : ℕ) → bytes_call L M s k ≡ bytes_call L M' s k
   pub place : (a : ℕ × ℕ) (k : ℕ) → place_call L M s a k ≡ place_call L M' s a k
-  pub range : (lo hi : Bound) (ks vs : List ℕ) → range_call L M s lo hi ks vs ≡ range_call L M' s lo hi ks vs
-  pub range-keys : (lo hi : Bound) (ks vs : List ℕ) → range_keys L M s lo hi ks vs ≡ range_keys L M' s lo hi ks vs
-  pub range-values : (lo hi : Bound) (ks vs : List ℕ) → range_values L M s lo hi ks vs ≡ range_values L M' s lo hi ks vs
+  pub range : (lo hi : Bound ℕ) (ks vs : List ℕ) → range_call L M s lo hi ks vs ≡ range_call L M' s lo hi ks vs
+  pub range-keys : (lo hi : Bound ℕ) (ks vs : List ℕ) → range_keys L M s lo hi ks vs ≡ range_keys L M' s lo hi ks vs
+  pub range-values : (lo hi : Bound ℕ) (ks vs : List ℕ) → range_values L M s lo hi ks vs ≡ range_values L M' s lo hi ks vs
   pub column : (P : Packing) (exam eye : ℕ) (a b : ℤ) (ks vs : List ℕ) → column_call L M s P exam eye a b ks vs ≡ column_call L M' s P exam eye a b ks vs
   pub column-keys : (P : Packing) (exam eye : ℕ) (a b : ℤ) (ks vs : List ℕ)
       → column_keys L M s P exam eye a b ks vs ≡ column_keys L M' s P exam eye a b ks vs
@@ -140,7 +140,7 @@ module _ (L : Layout) {M M' : Limits} (w : Within M M') (s : List ℕ) where
     pub n12-walk : (ks vs : List ℕ) → walk_call L M s ks vs ≡ refuses r → walk_call L M' s ks vs ≡ refuses r
     n12-walk ks vs e = walk-refuses L M' s r (n12-refuses (walk_refused L M s ks vs r e)) ks vs
 
-    pub n12-range : (lo hi : Bound) (ks vs : List ℕ) → range_call L M s lo hi ks vs ≡ refuses r → range_call L M' s lo hi ks vs ≡ refuses r
+    pub n12-range : (lo hi : Bound ℕ) (ks vs : List ℕ) → range_call L M s lo hi ks vs ≡ refuses r → range_call L M' s lo hi ks vs ≡ refuses r
     n12-range lo hi ks vs e = range-refuses L M' s r (n12-uncertified (range-refused L M s lo hi ks vs r e)) lo hi ks vs
 
     pub n12-column : (P : Packing) (exam eye : ℕ) (a b : ℤ) (ks vs : List ℕ) → column_call L M s P exam eye a b ks vs ≡ refuses r

@@ -2,7 +2,7 @@
 use Rattle.std.specs.Prelude.{ℕ, suc, ◌+◌, ◌-◌, ◌*◌, ◌/◌, ◌^◌, ◌≤◌, ◌<◌, ◌≡◌, false, List, [], ◌↔◌, ◌⊎◌, ℤ, length}
 use Rattle.std.proofs.Math.Path.{refl, ap}
 use Rattle.std.proofs.Common.{inl, inr, arith}
-use Rattle.format.specs.declared.Bound.{Bound}
+use Rattle.std.specs.declared.ops.Bound.{Bound}
 use Rattle.format.specs.declared.Packing.{Packing}
 use Rattle.format.specs.Layout.{Width, four, Layout, entries_in_range, leaf_size, inner_size, Limits, server, nested}
 use Rattle.format.specs.Refusal.{Answer, gives, refuses, From}
@@ -99,12 +99,12 @@ module _ (L : Layout) (M : Limits) (outside : entries_in_range L ≡ false) wher
         values = walk-values-refuses L M s 24 c ks vs;
       }
 
-  pub record RangeOutside (s : List ℕ) (lo hi : Bound) (ks vs : List ℕ) : Type 0 where
+  pub record RangeOutside (s : List ℕ) (lo hi : Bound ℕ) (ks vs : List ℕ) : Type 0 where
     pub answer : range_call L M s lo hi ks vs ≡ refuses 24
     pub keys : range_keys L M s lo hi ks vs ≡ ks
     pub values : range_values L M s lo hi ks vs ≡ vs
 
-  pub n9-range : (s : List ℕ) (lo hi : Bound) (ks vs : List ℕ) → RangeOutside s lo hi ks vs
+  pub n9-range : (s : List ℕ) (lo hi : Bound ℕ) (ks vs : List ℕ) → RangeOutside s lo hi ks vs
   n9-range s lo hi ks vs =
       let c = n9-certify s in
       record {

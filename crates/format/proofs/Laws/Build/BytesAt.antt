@@ -1,5 +1,5 @@
 -- Bytes that stand at a position of a list, and that a number or an offset that is written so is read back. Assumes nothing.
-use Rattle.std.specs.Prelude.{ℕ, zero, suc, ◌+◌, ◌-◌, ◌^◌, ◌≤◌, ◌<◌, ◌≡◌, refl, true, false, List, [], ◌∷◌, ◌++◌, length, get_or, pos}
+use Rattle.std.specs.Prelude.{ℕ, zero, suc, ◌+◌, ◌-◌, ◌^◌, ◌≤◌, ◌<◌, ◌≡◌, refl, true, false, List, [], ◌∷◌, ◌++◌, length, get_or, pos, None, Some}
 use Rattle.std.proofs.Common.{sym, ◌∙◌, subst₂, add-zero, add-suc, suc-add, mod-eq_of_lt, not-suc-le-zero, lit≤}
 use Rattle.std.proofs.Math.Path.{ap, subst}
 use native.Mathlib.Omega.{arith}
@@ -7,7 +7,6 @@ use Rattle.std.proofs.Math.Nat.{pow-suc}
 use Rattle.std.proofs.Math.IntN.{negsuc, sub_ℕ}
 use borrow.Author.Tests.{lt-ltb, eq-eqb, ne_eqb}
 use Rattle.format.specs.declared.Position.{Position}
-use Rattle.format.specs.declared.Child.TheVariants.{At, Absent}
 use Rattle.format.specs.Layout.{Width, two, four, eight, bytes, sign_bits, Layout, pointer}
 use Rattle.format.specs.Refusal.{gives}
 use Rattle.format.specs.Bytes.{le_at, le_bytes}
@@ -123,7 +122,7 @@ bits_most eight = lit≤ tt
 
 module _ (L : Layout) (s : List ℕ) where
   -- A field that is written so leads back to q, and is not absent.
-  pub offset-back : (f : ℕ) (q : Position) → q.0 < f → f - q.0 ≤ 2 ^ sign_bits L.width → BytesAt s f (offset_bytes L f (At q))
+  pub offset-back : (f : ℕ) (q : Position) → q.0 < f → f - q.0 ≤ 2 ^ sign_bits L.width → BytesAt s f (offset_bytes L f (Some q))
       → (target L s f ≡ at q.0) × (absent L s f ≡ false)
   unfolding target absent
   offset-back f q h far a₀ =
@@ -143,7 +142,7 @@ module _ (L : Layout) (s : List ℕ) where
       (leads-back f m (of_twos hb (le_at (pointer L) s f)) ez (omega arith) ∙ ap at el, ne_eqb _ _ (λ (x : le_at (pointer L) s f ≡ 1). omega arith))
 
   -- The mark of absence.
-  pub marked : (f : ℕ) → f < 2 ^ 63 → BytesAt s f (offset_bytes L f Absent) → absent L s f ≡ true
+  pub marked : (f : ℕ) → f < 2 ^ 63 → BytesAt s f (offset_bytes L f None) → absent L s f ≡ true
   unfolding absent twos
   marked f h a =
       let big = wide L.width in

@@ -1,11 +1,10 @@
 -- Refusal 16 is decided by one number: the width holds all offsets of an archive exactly if it holds the root's first one. Assumes nothing.
-use Rattle.std.specs.Prelude.{ℕ, ◌+◌, ◌-◌, ◌*◌, ◌^◌, ◌≤◌, ◌<◌, min, ◌≡◌, refl, Bool, true, false, negsuc, length}
+use Rattle.std.specs.Prelude.{ℕ, ◌+◌, ◌-◌, ◌*◌, ◌^◌, ◌≤◌, ◌<◌, min, ◌≡◌, refl, Bool, true, false, negsuc, length, None, Option, Some}
+use Rattle.format.specs.declared.Position.{Position}
 use Rattle.std.proofs.Math.Path.{sym, ap}
 use Rattle.std.proofs.Common.{◌∙◌, subst, arith, lit≤, le-leb, leb-true, leb-false}
 use mathlib.Core.List.{List, [], ◌∷◌}
 use Rattle.std.proofs.Math.Dec.{leb}
-use Rattle.format.specs.declared.Child.{Child}
-use Rattle.format.specs.declared.Child.TheVariants.{At, Absent}
 use Rattle.format.specs.Layout.{Width, two, four, eight, Layout, sign_bits, pointer, head_size, inner_size}
 use Rattle.format.specs.Refusal.{gives}
 use Rattle.format.specs.RelPtr.{signed_offset, stored_offset}
@@ -44,9 +43,9 @@ module _ (L : Layout) where
   abbrev far : ℕ
   far = 2 ^ sign_bits L.width
 
-  near-emplaces : (f : ℕ) (c : Child) → Near L far f c → f < 2 ^ 63 → emplaces L f c ≡ true
-  near-emplaces f (At q) n l = ap is_given (offset-fits (sign_bits L.width) f q.0 n.0 (omega (arith, n.1)) (omega arith))
-  near-emplaces f Absent n l = ap is_given (absent-fits (sign_bits L.width) f (bits-least L.width) (omega arith))
+  near-emplaces : (f : ℕ) (c : Option Position) → Near L far f c → f < 2 ^ 63 → emplaces L f c ≡ true
+  near-emplaces f (Some q) n l = ap is_given (offset-fits (sign_bits L.width) f q.0 n.0 (omega (arith, n.1)) (omega arith))
+  near-emplaces f None n l = ap is_given (absent-fits (sign_bits L.width) f (bits-least L.width) (omega arith))
 
   fields-hold : (bs : Branches) (p f : ℕ) → FieldsNear L far bs p f → f + pointer L * length (own bs) < 2 ^ 63 → fields_emplace L bs p f ≡ true
   fields-hold (last_b b) p f n l = near-emplaces f (child_of L b p) n (omega arith)
@@ -127,7 +126,7 @@ module _ (L : Layout) where
 
   -- The record's own field leads over the root alone.
   root-emplaces : (b : Branch) (p : ℕ) → inner_size L ≤ 376 → p + length_branch L b < 2 ^ 63 → emplaces L (p + length_branch L b) (child_of L b p) ≡ true
-  root-emplaces none_b p h l = near-emplaces (p + 0) Absent tt (omega arith)
+  root-emplaces none_b p h l = near-emplaces (p + 0) None tt (omega arith)
   root-emplaces (some_b t) p h l =
       near-emplaces (p + length_t L t) (child_of L (some_b t) p)
       (omega (arith, (top_in L t p).1), omega (arith, top-own L t p, own-most L t, bits-node L.width)) l

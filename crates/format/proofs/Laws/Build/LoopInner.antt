@@ -1,12 +1,11 @@
 -- The streaming builder at an inner node: a subtree is written as the tree's definition writes it, if its children are. Assumes nothing.
-use Rattle.std.specs.Prelude.{◌≡◌}
+use Rattle.std.specs.Prelude.{◌≡◌, None, Some}
 use Rattle.std.proofs.Math.Path.{refl, ap}
 use Rattle.std.proofs.Common.{sym, ◌∙◌, subst, arith, suc-add, not-suc-le-zero}
 use Rattle.std.proofs.Math.Bool.{false}
 use mathlib.Core.List.{List, [], ◌∷◌, ◌++◌, append_assoc, append-nil}
 use Prim.Native.Nat.{ℕ, zero, suc, ◌+◌, ◌*◌, ◌≤◌, ◌<◌, min}
 use Rattle.std.proofs.Math.ListN.{length, replicate, length-append}
-use Rattle.format.specs.declared.Child.TheVariants.{At, Absent}
 use Rattle.format.specs.Layout.{Layout, inner_size}
 use Rattle.format.specs.Tree.{Slot, slot_of, inner_bytes, last_b, more_b, Branch, length_branches, length_branch, child_of, slots_of, greater_of, KeyValue}
 use Rattle.format.specs.Tree.{write_branches, write_branch}
@@ -57,7 +56,7 @@ module _ (L : Layout) where
   -- Before a subtree: l empty inner nodes are open above the stack S.
   abbrev pub ready : List (List Slot) → ℕ → ℕ → List KeyValue → ℕ → List ℕ → State
   ready S l c es p bs =
-      record { open_leaf = []; open_inners = replicate l [] ++ S; child_pos = Absent; leaf_entries = c; iter = es; pos = p; bytes = bs; panics = false }
+      record { open_leaf = []; open_inners = replicate l [] ++ S; child_pos = None; leaf_entries = c; iter = es; pos = p; bytes = bs; panics = false }
 
   -- After it: its node is closed.
   abbrev pub done : ℕ → Filled → ℕ → List ℕ → State
@@ -79,7 +78,7 @@ module _ (L : Layout) where
       record {
         open_leaf = [];
         open_inners = [];
-        child_pos = At (record { 0 = q });
+        child_pos = Some (record { 0 = q });
         leaf_entries = c;
         iter = es;
         pos = q + inner_size L;
@@ -145,7 +144,7 @@ module _ (L : Layout) where
           record {
             open_leaf = [];
             open_inners = [];
-            child_pos = At (record { 0 = p + length_branches L R.branches });
+            child_pos = Some (record { 0 = p + length_branches L R.branches });
             leaf_entries = c;
             iter = R.rest;
             pos = i;
@@ -234,5 +233,5 @@ module _ (L : Layout) where
         (λ c'. ap (climb L S (suc (l + extra_level R.last))) (shut-done c' R p bs)
         ∙ ap (λ (i : ℕ). climb L S i (done c' (closed R) p bs)) (sym (suc-add l (extra_level R.last))))
         (subst (λ (x : List (List Slot)). Comes ll
-        (record { open_leaf = []; open_inners = x; child_pos = Absent; leaf_entries = c; iter = es; pos = p; bytes = bs; panics = false })
+        (record { open_leaf = []; open_inners = x; child_pos = None; leaf_entries = c; iter = es; pos = p; bytes = bs; panics = false })
         (λ c'. climb L S (suc (l + extra_level R.last)) (shut c' [] R p bs)) R.last) e₁ a)

@@ -1,5 +1,5 @@
 -- The streaming builder at the last level: its leaves, and the node above them in which the last level ends. Assumes nothing.
-use Rattle.std.specs.Prelude.{◌≡◌, false, get_or, take, drop}
+use Rattle.std.specs.Prelude.{◌≡◌, false, get_or, take, drop, None}
 use Rattle.std.proofs.Math.Path.{refl, ap, subst}
 use Rattle.std.proofs.Common.{sym, ◌∙◌, add-zero, add-suc, not-suc-le-zero, take-suc, drop-cons, length-take-le}
 use mathlib.Core.List.{List, [], ◌∷◌, ◌++◌, append_assoc, append-nil}
@@ -7,7 +7,6 @@ use Prim.Native.Nat.{ℕ, zero, suc, ◌+◌, ◌-◌, ◌*◌, ◌≤◌, ◌<�
 use native.Mathlib.Omega.{arith}
 use Rattle.std.proofs.Math.Decide.{dec_lt}
 use Rattle.std.proofs.Math.ListN.{length, length-append, length-drop}
-use Rattle.format.specs.declared.Child.TheVariants.{Absent}
 use Rattle.format.specs.Layout.{Layout}
 use Rattle.format.specs.Tree.{Slot, slot_of, inner_bytes, length_branches, length_branch, child_of, slots_of, greater_of, write_branches}
 use Rattle.format.specs.Tree.{write_branch, KeyValue}
@@ -23,14 +22,14 @@ module _ (L : Layout) where
   -- The open leaf holds the first k entries.
   abbrev held : List (List Slot) → ℕ → ℕ → List KeyValue → ℕ → List ℕ → State
   held S c k es p bs =
-      record { open_leaf = take k es; open_inners = S; child_pos = Absent; leaf_entries = c; iter = drop k es; pos = p; bytes = bs; panics = false }
+      record { open_leaf = take k es; open_inners = S; child_pos = None; leaf_entries = c; iter = drop k es; pos = p; bytes = bs; panics = false }
 
   pushed : (S : List (List Slot)) (c j : ℕ) (es : List KeyValue) (p : ℕ) (bs : List ℕ) → j < length es
       → push_leaf L (held S c j es p bs) (get_or es j no_pair) (drop (suc j) es) ≡ held S (suc c) (suc j) es p bs
   pushed S c j es p bs h = ap (λ (x : List KeyValue). leaf x) (sym (take-suc es j no_pair h))
     where
       leaf : List KeyValue → State
-      leaf x = record { open_leaf = x; open_inners = S; child_pos = Absent; leaf_entries = suc c; iter = drop (suc j) es; pos = p; bytes = bs; panics = false }
+      leaf x = record { open_leaf = x; open_inners = S; child_pos = None; leaf_entries = suc c; iter = drop (suc j) es; pos = p; bytes = bs; panics = false }
 
   leaf-length : (j : ℕ) (es : List KeyValue) → j < length es → length (take j es ++ (get_or es j no_pair ∷ [])) ≡ suc j
   leaf-length j es h = length-append (take j es) (get_or es j no_pair ∷ []) ∙ omega (arith, length-take-le j es (omega arith))
@@ -109,7 +108,7 @@ module _ (L : Layout) where
   bare_of k es = fill_branches (fill L 0) k 0 es
 
   record Bare (k : ℕ) (n : List Slot) (es : List KeyValue) (p : ℕ) (R : FilledBranches) : Type 0 where
-    pub takes : take_entries L k n Absent es ≡ record { node = n ++ slots_of L R.branches p; child_pos = greater_of L R.branches p; iter = R.rest }
+    pub takes : take_entries L k n None es ≡ record { node = n ++ slots_of L R.branches p; child_pos = greater_of L R.branches p; iter = R.rest }
     pub bytes : write_branches L R.branches p ≡ []
     pub size : length_branches L R.branches ≡ 0
     pub last : R.last ≡ 0
@@ -119,13 +118,13 @@ module _ (L : Layout) where
   bare zero n es p h = record { takes = ap (λ (x : List Slot). taken x) (sym (append-nil n)); bytes = refl; size = refl; last = refl }
     where
       taken : List Slot → Taken L
-      taken x = record { node = x; child_pos = Absent; iter = es }
+      taken x = record { node = x; child_pos = None; iter = es }
   bare (suc k) n [] p h = absurd (not-suc-le-zero h)
   bare (suc k) n (e ∷ es) p h =
-      let b = bare k (n ++ (slot_of e Absent ∷ [])) es (p + 0) (omega arith) in
+      let b = bare k (n ++ (slot_of e None ∷ [])) es (p + 0) (omega arith) in
       let R = bare_of k es in
       record {
-        takes = b.takes ∙ ap (λ (x : List Slot). taken R x) (append_assoc n (slot_of e Absent ∷ []) (slots_of L R.branches (p + 0)));
+        takes = b.takes ∙ ap (λ (x : List Slot). taken R x) (append_assoc n (slot_of e None ∷ []) (slots_of L R.branches (p + 0)));
         bytes = b.bytes;
         size = omega (arith, b.size);
         last = b.last;

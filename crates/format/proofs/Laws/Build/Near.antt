@@ -1,9 +1,8 @@
 -- How far back the offsets of a tree lead: never further than the tree is long; and no further than the root's first offset, where from the root down the
 -- first children each node's first offset leads no further than the one above it. Assumes nothing.
-use Rattle.std.specs.Prelude.{ℕ, suc, ◌+◌, ◌*◌, ◌/◌, ◌≤◌, ◌<◌, ◌≡◌, refl, length}
+use Rattle.std.specs.Prelude.{ℕ, suc, ◌+◌, ◌*◌, ◌/◌, ◌≤◌, ◌<◌, ◌≡◌, refl, length, None, Option, Some}
+use Rattle.format.specs.declared.Position.{Position}
 use Rattle.std.proofs.Common.{ap, arith}
-use Rattle.format.specs.declared.Child.{Child}
-use Rattle.format.specs.declared.Child.TheVariants.{At, Absent}
 use Rattle.format.specs.Layout.{Width, two, four, eight, bytes, Layout, pointer, head_size, leaf_size, inner_size}
 use Rattle.format.specs.Tree.{Tree, leaf_t, inner_t, Branches, last_b, more_b, Branch, none_b, some_b, length_t, length_branches, length_branch}
 use Rattle.format.specs.Tree.{top_t, child_of}
@@ -27,9 +26,9 @@ module _ (L : Layout) where
     FullBranch (some_b t) = FullT t
 
   -- The field at f leads back, by at most D bytes; so do all fields of a tree that is written from p on.
-  abbrev pub Near : ℕ → ℕ → Child → Type 0
-  Near D f (At q) = (q.0 < f) × (f ≤ q.0 + D)
-  Near D f Absent = Unit {0}
+  abbrev pub Near : ℕ → ℕ → Option Position → Type 0
+  Near D f (Some q) = (q.0 < f) × (f ≤ q.0 + D)
+  Near D f None = Unit {0}
 
   abbrev pub FieldsNear : ℕ → Branches → ℕ → ℕ → Type 0
   FieldsNear D (last_b b) p f = Near D f (child_of L b p)

@@ -1,11 +1,10 @@
 -- The bytes of a node and of a tree: how many they are, and the offset fields of an inner node by its children. Assumes nothing.
-use Rattle.std.specs.Prelude.{ℕ, zero, suc, ◌+◌, ◌-◌, ◌*◌, ◌%◌, ◌≤◌, ◌<◌, ◌≡◌, refl, ℤ, length, replicate}
+use Rattle.std.specs.Prelude.{ℕ, zero, suc, ◌+◌, ◌-◌, ◌*◌, ◌%◌, ◌≤◌, ◌<◌, ◌≡◌, refl, ℤ, length, replicate, None, Option, Some}
+use Rattle.format.specs.declared.Position.{Position}
 use Rattle.std.proofs.Common.{sym, ◌∙◌, arith, length-append}
 use Rattle.std.proofs.Math.Path.{ap}
 use mathlib.Core.List.{List, [], ◌∷◌, ◌++◌, map, append_assoc}
 use Rattle.std.proofs.lemmas.List.{length-replicate}
-use Rattle.format.specs.declared.Child.{Child}
-use Rattle.format.specs.declared.Child.TheVariants.{At, Absent}
 use Rattle.format.specs.Layout.{sign_bits, Layout, pointer, head_size, inner_size}
 use Rattle.format.specs.Refusal.{Answer, gives, refuses}
 use Rattle.format.specs.RelPtr.{stored_offset, absent_offset}
@@ -29,9 +28,9 @@ module _ (L : Layout) where
   unfolding head
   length-head k es = simp (length-append, length-column) (omega arith)
 
-  pub length-offset : (f : ℕ) (c : Child) → length (offset_bytes L f c) ≡ pointer L
-  length-offset f (At q) = length-emplaced (stored_offset (sign_bits L.width) f q.0)
-  length-offset f Absent = length-emplaced (absent_offset (sign_bits L.width) f)
+  pub length-offset : (f : ℕ) (c : Option Position) → length (offset_bytes L f c) ≡ pointer L
+  length-offset f (Some q) = length-emplaced (stored_offset (sign_bits L.width) f q.0)
+  length-offset f None = length-emplaced (absent_offset (sign_bits L.width) f)
 
   pub length-field_b : (k : Branch) (b f : ℕ) → length (field_b L k b f) ≡ pointer L
   length-field_b k b f = length-offset f (child_of L k b)
@@ -75,7 +74,7 @@ module _ (L : Layout) where
 
   -- ---- the length of what is written
 
-  length-lesser : (f n : ℕ) (cs : List Child) → length (lesser_bytes L f n cs) ≡ pointer L * n
+  length-lesser : (f n : ℕ) (cs : List (Option Position)) → length (lesser_bytes L f n cs) ≡ pointer L * n
   length-lesser f zero cs = omega arith
   length-lesser f (suc n) [] = simp (length-append, length-replicate) (omega (arith, length-lesser (f + pointer L) n []))
   length-lesser f (suc n) (c ∷ cs) = simp (length-append, length-offset) (omega (arith, length-lesser (f + pointer L) n cs))

@@ -1,5 +1,6 @@
 -- The streaming definition of the builder and the tree agree, over every layout and for every list of one entry or more. Assumes nothing.
-use Rattle.std.specs.Prelude.{◌≡◌}
+use Rattle.std.specs.Prelude.{◌≡◌, None, Option}
+use Rattle.format.specs.declared.Position.{Position}
 use Rattle.std.proofs.Math.Path.{refl, ap, subst}
 use Rattle.std.proofs.Common.{sym, ap₂, ◌∙◌, zero-add, not-suc-le-zero}
 use Rattle.std.proofs.Math.Bool.{false}
@@ -7,8 +8,6 @@ use mathlib.Core.List.{List, [], ◌∷◌, ◌++◌, append-nil}
 use Prim.Native.Nat.{ℕ, zero, suc, ◌+◌, ◌-◌, ◌≤◌, ◌<◌}
 use native.Mathlib.Omega.{arith}
 use Rattle.std.proofs.Math.ListN.{length, replicate}
-use Rattle.format.specs.declared.Child.{Child}
-use Rattle.format.specs.declared.Child.TheVariants.{Absent}
 use Rattle.format.specs.Layout.{Layout, node_align}
 use Rattle.format.specs.Align.{zeros_to}
 use Rattle.format.specs.Tree.{Slot, Branch, none_b, some_b, KeyValue}
@@ -81,7 +80,7 @@ module _ (L : Layout) (some : 0 < L.entries) where
       record {
         open_leaf = [];
         open_inners = replicate (height L (length all) - 1) [];
-        child_pos = Absent;
+        child_pos = None;
         leaf_entries = 0;
         iter = all;
         pos = p;
@@ -96,7 +95,7 @@ module _ (L : Layout) (some : 0 < L.entries) where
       (finished c (fill L h m all) p (run L (length all) m start₁) none x)
     where
       record' : ℕ → List (List Slot) → State
-      record' p x = record { open_leaf = []; open_inners = x; child_pos = Absent; leaf_entries = 0; iter = e ∷ es; pos = p; bytes = []; panics = false }
+      record' p x = record { open_leaf = []; open_inners = x; child_pos = None; leaf_entries = 0; iter = e ∷ es; pos = p; bytes = []; panics = false }
 
   archive-as : (header : List ℕ) (n : ℕ) (b : Branch) (t : State) → There b → Agrees L t b (length header + zeros_to node_align (length header))
       → header ++ (replicate (zeros_to node_align (length header)) 0 ++ (t.bytes ++ record_bytes L t.pos t.child_pos n))
@@ -106,7 +105,7 @@ module _ (L : Layout) (some : 0 < L.entries) where
   archive-as header n (some_b x) t th A =
       let z = zeros_to node_align (length header) in
       ap (λ (l : List ℕ). header ++ (replicate z 0 ++ l))
-      (ap₂ (λ (w r : List ℕ). w ++ r) A.bytes (ap₂ (λ (i : ℕ) (c : Child). record_bytes L i c n) A.pos A.root))
+      (ap₂ (λ (w r : List ℕ). w ++ r) A.bytes (ap₂ (λ (i : ℕ) (c : Option Position). record_bytes L i c n) A.pos A.root))
 
   -- The two archives are the same bytes.
   pub streamed-archive : (header : List ℕ) (es : List KeyValue) → streamed L header es ≡ archive L header es

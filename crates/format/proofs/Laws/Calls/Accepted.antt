@@ -1,12 +1,10 @@
 -- From the answer of check to what the readers require, and to what check's readers and certify answer: on refused bytes, at count 0, and above 0
 -- where all is read off the root's node. Assumes nothing.
 use Prim.Native.Nat.{ℕ, zero, suc, ◌-◌, ◌≤◌, ◌<◌}
-use Rattle.std.specs.Prelude.{◌≡◌, refl, Bool, true, false, List, [], length}
+use Rattle.std.specs.Prelude.{◌≡◌, refl, Bool, true, false, List, [], length, None, Option}
 use Rattle.std.proofs.Common.{sym, ◌∙◌, subst, arith}
 use Rattle.std.proofs.Math.Path.{ap}
 use Rattle.format.specs.declared.Entry.{Entry}
-use Rattle.format.specs.declared.Found.{Found}
-use Rattle.format.specs.declared.Found.TheVariants.{Nothing as nothing}
 use Rattle.format.specs.Layout.{Layout, record_size, Limits, Within, nested}
 use Rattle.format.specs.Refusal.{gives, refuses}
 use Rattle.format.specs.RelPtr.{at, target}
@@ -127,14 +125,14 @@ module _ (L : Layout) (M : Limits) (s : List ℕ) where
       unfolding list
       empty = rw none
 
-      nowhere : (k : ℕ) → lookup L M s k ≡ nothing
+      nowhere : (k : ℕ) → lookup L M s k ≡ None
       unfolding lookup
       nowhere k = rw none
 
       pub certify-none : counted (certify L M s) ≡ gives 0
       certify-none = ap counted (certify-passes L M s n next accepts (ap (hollow_of L M s) none) (ap ascends empty)) ∙ ap gives z
 
-      pub lookup-none : (k : ℕ) → lookup_call L M s k ≡ gives nothing
+      pub lookup-none : (k : ℕ) → lookup_call L M s k ≡ gives None
       lookup-none k = lookup-accepted k ∙ ap gives (nowhere k)
 
       pub bytes-none : (k : ℕ) → bytes_call L M s k ≡ []
@@ -223,7 +221,7 @@ module _ (L : Layout) (M : Limits) (s : List ℕ) where
           pub certify-all : o ≡ true → counted (certify L M s) ≡ gives n
           certify-all w = ap counted (certify-passes L M s n next accepts (hollow-root ∙ sym eh ∙ y) (ap ascends list-root ∙ sym eo ∙ w))
 
-        pub lookup-gives : (k : ℕ) (f : Found) → f ≡ lookup_at L s k (nested M') q → lookup_call L M s k ≡ gives f
+        pub lookup-gives : (k : ℕ) (f : Option Entry) → f ≡ lookup_at L s k (nested M') q → lookup_call L M s k ≡ gives f
         lookup-gives k f ef = lookup-accepted k ∙ ap gives (lookup-root k ∙ sym ef)
 
         pub bytes_gives : (k : ℕ) → bytes_call L M s k ≡ bytes_of s (lookup_at L s k (nested M') q)

@@ -4,13 +4,14 @@ use Rattle.std.specs.Prelude.{ℕ, ◌-◌, ◌^◌, ◌<◌, ◌≡◌, List, [
 use Rattle.std.proofs.Math.Path.{refl, ap}
 use Rattle.std.proofs.Common.{sym, ◌∙◌, subst}
 use Rattle.format.specs.declared.Entry.{Entry}
-use Rattle.format.specs.declared.Bound.{Bound}
-use Rattle.format.specs.declared.Bound.TheVariants.{Included}
+use Rattle.std.specs.declared.ops.Bound.{Bound}
+use Rattle.std.specs.declared.ops.Bound.TheVariants.{Included}
 use Rattle.format.specs.declared.Packing.{Packing}
 use Rattle.format.specs.Layout.{Layout, record_size, Limits, Within, nested}
 use Rattle.format.specs.Refusal.{gives, refuses}
 use Rattle.format.specs.RelPtr.{at, target}
-use Rattle.format.specs.Key.{Degrees, key_of, bits_of, Column, column_bounds}
+use Rattle.format.specs.Key.{Degrees, key_of, bits_of, column_bounds}
+use Rattle.format.specs.declared.Column.{Column}
 use Rattle.format.specs.Check.{Checked, accepted, refused, counted, check_archive}
 use Rattle.format.specs.Entries.{list_at, list}
 use Rattle.format.specs.Certify.{Ascending, Solid, certify}
@@ -29,7 +30,7 @@ use Rattle.format.proofs.Laws.Calls.Accepted.{gives-inv, refuses-inv, empty, lis
 module _ (L : Layout) (M : Limits) (s : List ℕ) where
   -- ---- bytes that certify refuses
 
-  module _ (r : ℕ) (e : counted (certify L M s) ≡ refuses r) (lo hi : Bound) (ks vs : List ℕ) where
+  module _ (r : ℕ) (e : counted (certify L M s) ≡ refuses r) (lo hi : Bound ℕ) (ks vs : List ℕ) where
     uncertified : certify L M s ≡ refused r
     uncertified = refuses-inv (certify L M s) r e
 
@@ -75,7 +76,7 @@ module _ (L : Layout) (M : Limits) (s : List ℕ) where
         → Ascending (list_at L s (nested M') q)
     ascending-root z q t within = subst Ascending (list-root L M s n certified-accepts z q t within) is-certified.ascending
 
-    module _ (lo hi : Bound) (ks vs : List ℕ) where
+    module _ (lo hi : Bound ℕ) (ks vs : List ℕ) where
       pub range-certified : range_call L M s lo hi ks vs ≡ gives (record { written = written (range L M s lo hi) ks vs; matching = length (range L M s lo hi) })
       unfolding range_call
       range-certified = rw (certifies, range_call)

@@ -4,7 +4,7 @@ use Rattle.std.specs.Prelude.{ℕ, zero, suc, ◌≡◌, List, ℤ, length}
 use Rattle.std.proofs.Math.Path.{refl, ap}
 use Rattle.std.proofs.Common.{sym, ◌∙◌, arith}
 use Rattle.format.specs.declared.Entry.{Entry}
-use Rattle.format.specs.declared.Bound.{Bound}
+use Rattle.std.specs.declared.ops.Bound.{Bound}
 use Rattle.format.specs.declared.Packing.{Packing}
 use Rattle.format.specs.Layout.{Layout, Limits, Within}
 use Rattle.format.specs.Refusal.{Answer, gives, refuses, OfLimits}
@@ -13,7 +13,8 @@ use Rattle.format.specs.Entries.{list_of, list}
 use Rattle.format.specs.Certify.{hollow_of, certify}
 use Rattle.format.specs.Lookup.{bytes_of, place_of, lookup_of, lookup}
 use Rattle.format.specs.Range.{matches, select, range}
-use Rattle.format.specs.Key.{Column, column_bounds}
+use Rattle.format.specs.Key.{column_bounds}
+use Rattle.format.specs.declared.Column.{Column}
 use Rattle.format.specs.Written.{written, keys_after, values_after}
 use Rattle.format.specs.Calls.{lookup_call, bytes_call, place_call, walk_call, walk_keys, walk_values, range_call, range_keys, range_values}
 use Rattle.format.specs.Calls.{column_call, column_keys, column_values}
@@ -106,7 +107,7 @@ module _ (L : Layout) {M M' : Limits} (w : Within M M') (s : List ℕ) where
         go (accepted m t) e = certified m (ap counted e) (ap counted (sym certify-same ∙ e))
         go (refused r) e = uncertified r (ap counted e) (ap counted (sym certify-same ∙ e))
 
-    module _ (lo hi : Bound) (ks vs : List ℕ) where
+    module _ (lo hi : Bound ℕ) (ks vs : List ℕ) where
       entries-same : range L M s lo hi ≡ range L M' s lo hi
       unfolding range
       entries-same = ap (select (matches lo hi)) list_same

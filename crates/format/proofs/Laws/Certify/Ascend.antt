@@ -1,9 +1,8 @@
 -- Lists whose keys ascend, and the search in them: what a lookup needs of a list that is split at an entry. Assumes nothing.
-use Rattle.std.specs.Prelude.{ℕ, ◌<◌, ◌≤◌, ◌≡◌, refl, Bool, true, false, List, [], ◌∷◌, ◌++◌, eqb, ltb}
+use Rattle.std.specs.Prelude.{ℕ, ◌<◌, ◌≤◌, ◌≡◌, refl, Bool, true, false, List, [], ◌∷◌, ◌++◌, eqb, ltb, None, Some}
 use Rattle.std.proofs.Common.{sym, ◌∙◌, arith, eqb-true, eq-eqb, ne_eqb, ltb-true, lt-ltb}
 use Rattle.std.proofs.lemmas.Bool.{eqb-false}
 use Rattle.format.specs.declared.Entry.{Entry}
-use Rattle.format.specs.declared.Found.TheVariants.{Entry as found, Nothing as nothing}
 use Rattle.format.specs.Certify.{Above, Ascending, ascends_from, ascends}
 use Rattle.format.specs.Lookup.{find}
 use Rattle.format.proofs.Laws.Check.Reach.{true≢false}
@@ -13,7 +12,7 @@ abbrev pub Under : ℕ → List Entry → Type 0
 Under k [] = Unit {0}
 Under k (x ∷ xs) = (x.key < k) × Under k xs
 
-pub find-hit : (k : ℕ) (x : Entry) (xs : List Entry) → x.key ≡ k → find k (x ∷ xs) ≡ found x
+pub find-hit : (k : ℕ) (x : Entry) (xs : List Entry) → x.key ≡ k → find k (x ∷ xs) ≡ Some x
 find-hit k x xs e = rw (eq-eqb x.key k e, find)
 
 pub find-miss : (k : ℕ) (x : Entry) (xs : List Entry) → (x.key ≡ k → ⊥) → find k (x ∷ xs) ≡ find k xs
@@ -38,7 +37,7 @@ split (x ∷ xs) e r h =
     record { left = (a, s.left); under = (b.0, s.under); above = s.above; right = s.right }
 
 -- A list whose keys are above j holds no key up to j.
-find-above : (k j : ℕ) → k ≤ j → (l : List Entry) → Above j l → find k l ≡ nothing
+find-above : (k j : ℕ) → k ≤ j → (l : List Entry) → Above j l → find k l ≡ None
 find-above k j h [] a = refl
 find-above k j h (x ∷ xs) a = find-miss k x xs (λ e. omega arith) ∙ find-above k j h xs a.1
 
@@ -49,7 +48,7 @@ find-cons k x l r e = go (eqb x.key k) refl
     go true eb = find-hit k x l (eqb-true _ _ eb) ∙ sym (find-hit k x r (eqb-true _ _ eb))
     go false eb = find-miss k x l (eqb-false _ _ eb) ∙ e ∙ sym (find-miss k x r (eqb-false _ _ eb))
 
-find-left : (k : ℕ) (l r : List Entry) → find k r ≡ nothing → find k (l ++ r) ≡ find k l
+find-left : (k : ℕ) (l r : List Entry) → find k r ≡ None → find k (l ++ r) ≡ find k l
 find-left k [] r e = e
 find-left k (x ∷ xs) r e = find-cons k x (xs ++ r) xs (find-left k xs r e)
 
@@ -67,7 +66,7 @@ module _ (l : List Entry) (e : Entry) (r : List Entry) (asc : Ascending (l ++ e 
   find-less h = let s = split l e r asc in
       find-left k l (e ∷ r) (find-miss k e r (λ q. omega arith) ∙ find-above k e.key (omega arith) r s.above)
 
-  pub find-same : k ≡ e.key → find k (l ++ e ∷ r) ≡ found e
+  pub find-same : k ≡ e.key → find k (l ++ e ∷ r) ≡ Some e
   find-same h = let s = split l e r asc in
       find-right k l (e ∷ r) (under-mono e.key k (omega arith) l s.under) ∙ find-hit k e r (sym h)
 

@@ -1,12 +1,11 @@
 -- Where the list's keys ascend, the lookup is the search in the list. Assumes nothing.
 use Prim.Native.Nat.{ℕ, zero, suc, ◌<◌}
-use Rattle.std.specs.Prelude.{◌≡◌, Bool, List, [], ◌∷◌, ◌++◌, eqb, ltb}
+use Rattle.std.specs.Prelude.{◌≡◌, Bool, List, [], ◌∷◌, ◌++◌, eqb, ltb, Option}
 use Rattle.std.proofs.Math.Path.{refl}
 use Rattle.std.proofs.Common.{sym, ◌∙◌, arith, eqb-true, ltb-true, ltb-false}
 use Rattle.std.proofs.Math.Bool.{true, false}
 use Rattle.std.proofs.lemmas.Bool.{eqb-false}
 use Rattle.format.specs.declared.Entry.{Entry}
-use Rattle.format.specs.declared.Found.{Found}
 use Rattle.format.specs.Layout.{Layout}
 use Rattle.format.specs.RelPtr.{at, below, target, absent, Destination}
 use Rattle.format.specs.Node.{Kind, leaf, inner, other, child, kind, leaf_count, slot}
@@ -45,7 +44,7 @@ module _ (L : Layout) (s : List ℕ) (k : ℕ) where
       go (is-equal w h) ih = rw (w, lookup_slots) (sym (find-same [] e r a k h))
       go (is_greater w h) ih = rw (w, lookup_slots) (ih ∙ sym (find-more [] e r a k h))
 
-  module _ (look : ℕ → Found) (give : ℕ → List Entry) (ih : (q : ℕ) → Ascending (give q) → look q ≡ find k (give q)) where
+  module _ (look : ℕ → Option Entry) (give : ℕ → List Entry) (ih : (q : ℕ) → Ascending (give q) → look q ≡ find k (give q)) where
     child-find : (f : ℕ) → Ascending (list_child L s give f) → lookup_child L s k look f ≡ find k (list_child L s give f)
     unfolding lookup_child list_child
     child-find f a = go (absent L s f) (target L s f) refl refl

@@ -6,9 +6,10 @@ use Rattle.std.proofs.Math.Decide.{dec_lt}
 use borrow.Author.Tests.{lt-ltb, le-ltb}
 use Rattle.format.specs.declared.Packing.{Packing}
 use Rattle.format.specs.declared.Packing.TheVariants.{Plus128}
-use Rattle.format.specs.declared.Bound.TheVariants.{Included}
+use Rattle.std.specs.declared.ops.Bound.TheVariants.{Included}
 use Rattle.format.specs.Refusal.{Answer, gives, refuses}
-use Rattle.format.specs.Key.{Degrees, key_of, bits_of, degrees_of, pack_key, fields_of, column_bounds, KeyParts}
+use Rattle.format.specs.Key.{Degrees, key_of, bits_of, degrees_of, pack_key, fields_of, column_bounds}
+use Rattle.format.specs.declared.KeyFields.{KeyFields}
 use Rattle.format.proofs.Laws.Numbers.Degrees.{plus-stored, bits-lt, degrees-bits, bits-degrees}
 
 -- An answer that gives something is not refused.
@@ -49,7 +50,7 @@ module _ (P : Packing) (exam eye : ℕ) (x y : ℤ) (pres : ℕ) where
 -- ---- unpacking
 
 fields-path : {a b c d e f : ℕ} {u v x y : ℤ} → a ≡ b → c ≡ d → u ≡ v → x ≡ y → e ≡ f
-    → ◌≡◌ {A = KeyParts} (record { examination = a; eye = c; x = u; y = x; presentation = e })
+    → ◌≡◌ {A = KeyFields} (record { examination = a; eye = c; x = u; y = x; presentation = e })
     (record { examination = b; eye = d; x = v; y = y; presentation = f })
 fields-path p q r s t = λ j. record { examination = p j; eye = q j; x = r j; y = s j; presentation = t j }
 

@@ -9,7 +9,8 @@ use Rattle.format.specs.declared.Entry.{Entry}
 use Rattle.format.specs.declared.Packing.TheVariants.{TwosComplement, Plus128}
 use Rattle.format.specs.Layout.{Layout, Limits}
 use Rattle.format.specs.Entries.{list}
-use Rattle.format.specs.Key.{KeyParts, fields_of}
+use Rattle.format.specs.Key.{fields_of}
+use Rattle.format.specs.declared.KeyFields.{KeyFields}
 use Rattle.format.specs.Range.{select}
 use Rattle.format.specs.Lookup.{In}
 use Rattle.format.specs.Column.{from_to, takes, OfEye, eye_with, column}
@@ -27,7 +28,7 @@ below x y = (λ t. record { le = subst T (sym t) tt }, λ h. by (le_z x y) h.le)
 -- ---- new keys
 
 module _ (exam eye : ℕ) (a b : ℤ) (e : Entry) where
-  abbrev f : KeyParts
+  abbrev f : KeyFields
   f = fields_of Plus128 e.key
 
   in-column : (eye_with Plus128 exam eye (takes Plus128 a b) e ≡ true) ↔ (OfEye exam eye f × ((a ≤ℤ f.x) × (f.x ≤ℤ b)))

@@ -1,19 +1,18 @@
 -- The ends of a range: they hold a key exactly if it meets both bounds, also where a bound is excluded at 0 or at the largest key. The keys of an
 -- archive are below 2 ^ 64, so the ends select the entries that the bounds select. Assumes nothing.
 use Prim.Native.Nat.{ℕ, zero, suc, ◌+◌, ◌-◌, ◌^◌, ◌≤◌, ◌<◌}
-use Rattle.std.specs.Prelude.{◌≡◌, refl, Bool, true, false, ◌&&◌, ◌↔◌, leb, ltb}
+use Rattle.std.specs.Prelude.{◌≡◌, refl, Bool, true, false, ◌&&◌, ◌↔◌, leb, ltb, None, Option, Some}
+use Rattle.format.specs.declared.Position.{Position}
+use Rattle.format.specs.Range.{from_to}
 use Rattle.std.proofs.Common.{sym, ◌∙◌, ltb-true, ltb-false, leb-true, leb-false, lt-ltb, le-ltb, le-leb}
 use Rattle.std.proofs.Math.Path.{ap}
 use mathlib.Core.List.{List, [], ◌∷◌, ◌++◌}
 use native.Mathlib.Omega.{arith}
 use Rattle.std.proofs.lemmas.Bool.{lt-leb}
 use Rattle.format.specs.declared.Entry.{Entry}
-use Rattle.format.specs.declared.Bound.{Bound}
-use Rattle.format.specs.declared.Bound.TheVariants.{Included, Excluded, Unbounded}
+use Rattle.std.specs.declared.ops.Bound.{Bound}
+use Rattle.std.specs.declared.ops.Bound.TheVariants.{Included, Excluded, Unbounded}
 use Rattle.format.specs.declared.Ends.{Ends}
-use Rattle.format.specs.declared.Ends.TheVariants.{Keys, Nothing}
-use Rattle.format.specs.declared.Child.{Child}
-use Rattle.format.specs.declared.Child.TheVariants.{At, Absent}
 use Rattle.format.specs.Layout.{Layout, Limits, nested}
 use Rattle.format.specs.Bytes.{AllBytes}
 use Rattle.format.specs.RelPtr.{target, at, below, Destination}
@@ -31,13 +30,13 @@ use Rattle.format.proofs.Laws.Read.Children.{on_child, list-child}
 
 -- ---- each bound as a number
 
-lower-least : (lo : Bound) (k : ℕ) → key_meets_lower lo k ≡ leb (least_of lo) k
+lower-least : (lo : Bound ℕ) (k : ℕ) → key_meets_lower lo k ≡ leb (least_of lo) k
 lower-least (Included b) k = refl
 lower-least (Excluded b) k =
     same_test _ _ (λ t. le-leb (b + 1) k (let w = ltb-true b k t in omega arith)) (λ t. lt-leb (b + 1) k (let w = ltb-false b k t in omega arith))
 lower-least Unbounded k = sym (le-leb 0 k (omega arith))
 
-upper-past : (hi : Bound) (k : ℕ) → k < 2 ^ 64 → key_meets_upper hi k ≡ ltb k (past_of hi)
+upper-past : (hi : Bound ℕ) (k : ℕ) → k < 2 ^ 64 → key_meets_upper hi k ≡ ltb k (past_of hi)
 upper-past (Included b) k h =
     same_test _ _ (λ t. lt-ltb k (b + 1) (let w = leb-true k b t in omega arith)) (λ t. le-ltb k (b + 1) (let w = leb-false k b t in omega arith))
 upper-past (Excluded b) k h = refl
@@ -45,16 +44,16 @@ upper-past Unbounded k h = sym (lt-ltb k (2 ^ 64) h)
 
 -- ---- what the ends are
 
-module _ (lo hi : Bound) where
-  pub ends-nothing : past_of hi ≤ least_of lo → ends_of lo hi ≡ Nothing
+module _ (lo hi : Bound ℕ) where
+  pub ends-nothing : past_of hi ≤ least_of lo → ends_of lo hi ≡ None
   unfolding ends_of
   ends-nothing h = rw (le-ltb (least_of lo) (past_of hi) h, between)
 
-  pub ends-keys : (least greatest : ℕ) → least_of lo ≡ least → past_of hi ≡ greatest + 1 → least ≤ greatest → ends_of lo hi ≡ Keys least greatest
+  pub ends-keys : (least greatest : ℕ) → least_of lo ≡ least → past_of hi ≡ greatest + 1 → least ≤ greatest → ends_of lo hi ≡ from_to least greatest
   unfolding ends_of
   ends-keys least greatest el eh h =
       let z : greatest + 1 - 1 ≡ greatest = omega arith in
-      ap (λ (l : ℕ). between l (past_of hi)) el ∙ ap (between least) eh ∙ rw (lt-ltb least (greatest + 1) (omega arith), between) (ap (Keys least) z)
+      ap (λ (l : ℕ). between l (past_of hi)) el ∙ ap (between least) eh ∙ rw (lt-ltb least (greatest + 1) (omega arith), between) (ap (from_to least) z)
 
 -- A key is between two numbers if it is neither below the one nor from the other on.
 between-holds : (least past k : ℕ) → holds (between least past) k ≡ (leb least k && ltb k past)
@@ -69,43 +68,43 @@ between-holds least past k = by (ltb least past) refl (leb least k) refl
     by false e false m = rw (e, m, between)
 
 -- The numbers and the two bounds say the same of every key.
-pub ends-hold : (lo hi : Bound) (k : ℕ) → k < 2 ^ 64 → holds (ends_of lo hi) k ≡ (key_meets_lower lo k && key_meets_upper hi k)
+pub ends-hold : (lo hi : Bound ℕ) (k : ℕ) → k < 2 ^ 64 → holds (ends_of lo hi) k ≡ (key_meets_lower lo k && key_meets_upper hi k)
 unfolding ends_of
 ends-hold lo hi k h = rw (lower-least lo k, upper-past hi k h) (between-holds (least_of lo) (past_of hi) k)
 
 -- ---- the corners
 
-past_fits : (hi : Bound) → Fits hi → past_of hi ≤ 2 ^ 64
+past_fits : (hi : Bound ℕ) → Fits hi → past_of hi ≤ 2 ^ 64
 past_fits (Included b) f = omega arith
 past_fits (Excluded b) f = omega arith
 past_fits Unbounded f = omega arith
 
-pub excluded-at-0-below : (hi : Bound) → ends_of (Excluded 0) hi ≡ ends_of (Included 1) hi
+pub excluded-at-0-below : (hi : Bound ℕ) → ends_of (Excluded 0) hi ≡ ends_of (Included 1) hi
 unfolding ends_of
 excluded-at-0-below hi = refl
 
-pub excluded-at-0-above : (lo : Bound) → ends_of lo (Excluded 0) ≡ Nothing
+pub excluded-at-0-above : (lo : Bound ℕ) → ends_of lo (Excluded 0) ≡ None
 excluded-at-0-above lo = ends-nothing lo (Excluded 0) (omega arith)
 
-pub excluded-at-the-largest-below : (hi : Bound) → Fits hi → ends_of (Excluded 0xffff_ffff_ffff_ffff) hi ≡ Nothing
+pub excluded-at-the-largest-below : (hi : Bound ℕ) → Fits hi → ends_of (Excluded 0xffff_ffff_ffff_ffff) hi ≡ None
 excluded-at-the-largest-below hi f = ends-nothing (Excluded 0xffff_ffff_ffff_ffff) hi (past_fits hi f)
 
-pub excluded-at-the-largest-above : (lo : Bound) → ends_of lo (Excluded 0xffff_ffff_ffff_ffff) ≡ ends_of lo (Included 0xffff_ffff_ffff_fffe)
+pub excluded-at-the-largest-above : (lo : Bound ℕ) → ends_of lo (Excluded 0xffff_ffff_ffff_ffff) ≡ ends_of lo (Included 0xffff_ffff_ffff_fffe)
 unfolding ends_of
 excluded-at-the-largest-above lo = refl
 
-pub open-below : (hi : Bound) → ends_of Unbounded hi ≡ ends_of (Included 0) hi
+pub open-below : (hi : Bound ℕ) → ends_of Unbounded hi ≡ ends_of (Included 0) hi
 unfolding ends_of
 open-below hi = refl
 
-pub open_above : (lo : Bound) → ends_of lo Unbounded ≡ ends_of lo (Included 0xffff_ffff_ffff_ffff)
+pub open_above : (lo : Bound ℕ) → ends_of lo Unbounded ≡ ends_of lo (Included 0xffff_ffff_ffff_ffff)
 unfolding ends_of
 open_above lo = refl
 
-pub crossed-nothing : (lo hi : Bound) → crosses lo hi ≡ true → ends_of lo hi ≡ Nothing
+pub crossed-nothing : (lo hi : Bound ℕ) → crosses lo hi ≡ true → ends_of lo hi ≡ None
 crossed-nothing lo hi c = ends-nothing lo hi (by lo hi c)
   where
-    by : (lo hi : Bound) → crosses lo hi ≡ true → past_of hi ≤ least_of lo
+    by : (lo hi : Bound ℕ) → crosses lo hi ≡ true → past_of hi ≤ least_of lo
     by Unbounded hi c = absurd (true≢false c refl)
     by (Included a) Unbounded c = absurd (true≢false c refl)
     by (Included a) (Included b) c = omega (arith, ltb-true)
@@ -115,12 +114,12 @@ crossed-nothing lo hi c = ends-nothing lo hi (by lo hi c)
     by (Excluded a) (Excluded b) c = omega (arith, leb-true)
 
 -- The ends are nothing exactly where no key meets both bounds.
-pub nothing-exactly : (lo hi : Bound) → Fits hi
-    → ((k : ℕ) → k < 2 ^ 64 → (key_meets_lower lo k && key_meets_upper hi k) ≡ false) ↔ (ends_of lo hi ≡ Nothing)
-nothing-exactly lo hi f = (λ none. by none (ltb (least_of lo) (past_of hi)) refl, λ e k h. sym (ends-hold lo hi k h) ∙ ap (λ (x : Ends). holds x k) e)
+pub nothing-exactly : (lo hi : Bound ℕ) → Fits hi
+    → ((k : ℕ) → k < 2 ^ 64 → (key_meets_lower lo k && key_meets_upper hi k) ≡ false) ↔ (ends_of lo hi ≡ None)
+nothing-exactly lo hi f = (λ none. by none (ltb (least_of lo) (past_of hi)) refl, λ e k h. sym (ends-hold lo hi k h) ∙ ap (λ (x : Option Ends). holds x k) e)
   where
     by : ((k : ℕ) → k < 2 ^ 64 → (key_meets_lower lo k && key_meets_upper hi k) ≡ false) → (b : Bool)
-        → ltb (least_of lo) (past_of hi) ≡ b → ends_of lo hi ≡ Nothing
+        → ltb (least_of lo) (past_of hi) ≡ b → ends_of lo hi ≡ None
     by none true e =
         let fits : least_of lo < 2 ^ 64 = omega (arith, ltb-true, past_fits hi f) in
         let met : (key_meets_lower lo (least_of lo) && key_meets_upper hi (least_of lo)) ≡ true =
@@ -149,9 +148,9 @@ module _ (L : Layout) (s : List ℕ) (b : AllBytes s) where
     unfolding on_child
     child-under f = rw (list-child L s give f) (go (child_at L s f))
       where
-        go : (c : Child) → Under (2 ^ 64) (on_child [] give c)
-        go (At q) = few q.0
-        go Absent = tt
+        go : (c : Option Position) → Under (2 ^ 64) (on_child [] give c)
+        go (Some q) = few q.0
+        go None = tt
 
     children-under : (p k i : ℕ) → Under (2 ^ 64) (list_children L s give p k i)
     unfolding list_children
@@ -185,10 +184,10 @@ module _ (L : Layout) (s : List ℕ) (b : AllBytes s) where
 
 -- ---- what is selected
 
-pub none-held : (es : List Entry) → select (held Nothing) es ≡ []
-none-held = select-none (held Nothing) (λ e. refl)
+pub none-held : (es : List Entry) → select (held None) es ≡ []
+none-held = select-none (held None) (λ e. refl)
 
-module _ (lo hi : Bound) where
+module _ (lo hi : Bound ℕ) where
   -- As `ends-hold`, of an entry.
   ends-matches : (e : Entry) → e.key < 2 ^ 64 → held (ends_of lo hi) e ≡ matches lo hi e
   ends-matches e h = ends-hold lo hi e.key h ∙ sym (matches-both lo hi e)
@@ -204,7 +203,7 @@ module _ (lo hi : Bound) where
 
   module _ (L : Layout) (s : List ℕ) (b : AllBytes s) where
     -- The entries of a node that the bounds select are those that the ends select.
-    pub node-ends : (d p : ℕ) (ends : Ends) → ends ≡ ends_of lo hi → select (matches lo hi) (list_at L s d p) ≡ select (held ends) (list_at L s d p)
+    pub node-ends : (d p : ℕ) (ends : Option Ends) → ends ≡ ends_of lo hi → select (matches lo hi) (list_at L s d p) ≡ select (held ends) (list_at L s d p)
     node-ends d p ends e = rw e (select-ends (list_at L s d p) (node-under L s b d p))
 
     -- The same of an archive.

@@ -9,8 +9,8 @@ use mathlib.Core.List.{List, [], ◌∷◌, append-nil}
 use Rattle.std.proofs.Math.Option.{Option, none, some}
 use native.Mathlib.Omega.{arith}
 use Rattle.format.specs.declared.Entry.{Entry}
-use Rattle.format.specs.declared.Bound.{Bound}
-use Rattle.format.specs.declared.Bound.TheVariants.{Included, Excluded, Unbounded}
+use Rattle.std.specs.declared.ops.Bound.{Bound}
+use Rattle.std.specs.declared.ops.Bound.TheVariants.{Included, Excluded, Unbounded}
 use Rattle.format.specs.Layout.{Layout, Limits, nested}
 use Rattle.format.specs.Bytes.{le_at}
 use Rattle.format.specs.RelPtr.{at, below, target, absent, Destination}
@@ -27,7 +27,7 @@ use Rattle.format.proofs.Laws.Range.List.{matches-none, select-ascending, crosse
 use Rattle.format.proofs.Laws.Range.Stack.{Full, Stack, bottom, upon, leftmost-stack, onward-stack, seek-stack}
 
 -- Where the bounds cross, no entry of any list matches.
-pub crossed-none : (lo hi : Bound) → crosses lo hi ≡ true → (l : List Entry) → select (matches lo hi) l ≡ []
+pub crossed-none : (lo hi : Bound ℕ) → crosses lo hi ≡ true → (l : List Entry) → select (matches lo hi) l ≡ []
 crossed-none lo hi c [] = refl
 crossed-none lo hi c (x ∷ xs) = rw (matches-none lo hi x (crossed-fails lo hi c x), select) (crossed-none lo hi c xs)
 
@@ -132,7 +132,7 @@ module _ (L : Layout) (M : Limits) (s : List ℕ) where
       by false eb ih = rw (eb, drop_to) ih
 
   -- With the end at the first key past the upper bound, the iterator gives the entries before that one.
-  runs-yields : (hi : Bound) {st : List Frame} {l : List Entry} → Runs st l → Ascending l
+  runs-yields : (hi : Bound ℕ) {st : List Frame} {l : List Entry} → Runs st l → Ascending l
       → Yields L M s (record { stack = st; end = first_key L (drop_to (past hi) l) }) (take_to (meets_upper hi) l)
   unfolding next_of
   runs-yields hi done a = finished refl
@@ -196,7 +196,7 @@ module _ (L : Layout) (M : Limits) (s : List ℕ) where
         sym (seek-turns L s (push L s) (keep L s) (top_key L) (λ p i a. refl) f (nested M) R.pos []) ∙ top-first L s (nested M) (seek-root f rises)
 
     -- `init_stack_for_lower`: the stack has to give the list from the first entry on that meets the lower bound.
-    lower-stack : 0 < L.entries → (lo : Bound) → Stack L s (nested M) (lower_stack L M s lo) (drop_to (meets_lower lo) (list L M s))
+    lower-stack : 0 < L.entries → (lo : Bound ℕ) → Stack L s (nested M) (lower_stack L M s lo) (drop_to (meets_lower lo) (list L M s))
     unfolding lower_stack along
     lower-stack pos (Included k) = rw R.leads (seek-root (meets_lower (Included k)) (lower-rises (Included k)))
     lower-stack pos (Excluded k) = rw R.leads (seek-root (meets_lower (Excluded k)) (lower-rises (Excluded k)))
@@ -204,14 +204,14 @@ module _ (L : Layout) (M : Limits) (s : List ℕ) where
         (leftmost-stack L s (nested M) pos true (nested M) (nested M) (omega arith) (omega arith) R.pos [] [] root-full bottom)
 
     -- `find_first_past_upper`: the position of the first key past the upper bound.
-    first_past_lem : (hi : Bound) → first_past L M s hi ≡ first_key L (drop_to (past hi) (list L M s))
+    first_past_lem : (hi : Bound ℕ) → first_past L M s hi ≡ first_key L (drop_to (past hi) (list L M s))
     unfolding first_past along
     first_past_lem (Included k) = rw R.leads (seek-top (past (Included k)) (past-rises (Included k)))
     first_past_lem (Excluded k) = rw R.leads (seek-top (past (Excluded k)) (past-rises (Excluded k)))
     first_past_lem Unbounded = rw (drop_all (list L M s))
 
     -- The iterator that `new` makes where the record's count is above 0.
-    start-yields : 0 < L.entries → (lo hi : Bound) → crosses lo hi ≡ false
+    start-yields : 0 < L.entries → (lo hi : Bound ℕ) → crosses lo hi ≡ false
         → Yields L M s (record { stack = cleared L M s (lower_stack L M s lo) (first_past L M s hi); end = first_past L M s hi })
         (select (matches lo hi) (list L M s))
     start-yields pos lo hi c =
@@ -222,7 +222,7 @@ module _ (L : Layout) (M : Limits) (s : List ℕ) where
         (ascending-drop (meets_lower lo) (list L M s) C.ascending))))
 
   -- On certified bytes, where the bounds do not cross, the iterator gives the range: every entry that matches, in order, and then nothing.
-  pub range-yields : 0 < L.entries → Certified L M s → (lo hi : Bound) → crosses lo hi ≡ false → Yields L M s (new L M s lo hi) (range L M s lo hi)
+  pub range-yields : 0 < L.entries → Certified L M s → (lo hi : Bound ℕ) → crosses lo hi ≡ false → Yields L M s (new L M s lo hi) (range L M s lo hi)
   unfolding new range list next_of
   range-yields pos C lo hi c = by (recorded L s) refl
     where

@@ -4,8 +4,8 @@ use Rattle.std.specs.Prelude.{ℕ, ◌<◌, ◌≤◌, ◌≡◌, refl, Bool, tr
 use Rattle.std.proofs.Common.{sym, ap, subst, arith, ltb-true, ltb-false, leb-true, leb-false, lt-ltb, le-leb, le-ltb}
 use Rattle.std.proofs.lemmas.Bool.{lt-leb, not-true}
 use Rattle.format.specs.declared.Entry.{Entry}
-use Rattle.format.specs.declared.Bound.{Bound}
-use Rattle.format.specs.declared.Bound.TheVariants.{Included, Excluded, Unbounded}
+use Rattle.std.specs.declared.ops.Bound.{Bound}
+use Rattle.std.specs.declared.ops.Bound.TheVariants.{Included, Excluded, Unbounded}
 use Rattle.format.specs.Certify.{Above, Ascending}
 use Rattle.format.specs.Range.{key_meets_lower, key_meets_upper, meets_lower, meets_upper, matches, select, crosses}
 use Rattle.format.specs.Lookup.{In, first, later}
@@ -23,25 +23,25 @@ take_to f [] = []
 take_to f (x ∷ xs) = elim (f x) [ true ↦ x ∷ take_to f xs | false ↦ [] ]
 
 -- Whether the key is past an upper bound: `key_is_past_upper`.
-abbrev pub past : Bound → Entry → Bool
+abbrev pub past : Bound ℕ → Entry → Bool
 past hi e = not (meets_upper hi e)
 
 -- Every key above one that passes the test passes too.
 abbrev pub Rises : (Entry → Bool) → Type 0
 Rises f = (x y : Entry) → x.key < y.key → f x ≡ true → f y ≡ true
 
-pub lower-rises : (lo : Bound) → Rises (meets_lower lo)
+pub lower-rises : (lo : Bound ℕ) → Rises (meets_lower lo)
 lower-rises (Included k) x y h e = le-leb k y.key (omega (arith, leb-true))
 lower-rises (Excluded k) x y h e = lt-ltb k y.key (omega (arith, ltb-true))
 lower-rises Unbounded x y h e = refl
 
 -- No key above one that fails an upper bound meets that bound.
-upper-falls : (hi : Bound) (x y : Entry) → x.key < y.key → meets_upper hi x ≡ false → meets_upper hi y ≡ false
+upper-falls : (hi : Bound ℕ) (x y : Entry) → x.key < y.key → meets_upper hi x ≡ false → meets_upper hi y ≡ false
 upper-falls (Included k) x y h e = lt-leb y.key k (omega (arith, leb-false))
 upper-falls (Excluded k) x y h e = le-ltb y.key k (omega (arith, ltb-false))
 upper-falls Unbounded x y h e = e
 
-pub past-rises : (hi : Bound) → Rises (past hi)
+pub past-rises : (hi : Bound ℕ) → Rises (past hi)
 past-rises hi x y h e = rw (upper-falls hi x y h (not-true (meets_upper hi x) e))
 
 -- A test that every entry passes, and one that none passes.
@@ -95,7 +95,7 @@ module _ (f : Entry → Bool) (k : ℕ) where
   select-above h [] a = refl
   select-above h (x ∷ l) a = rw (h x a.0, select) (select-above h l a.1)
 
-module _ (lo hi : Bound) where
+module _ (lo hi : Bound ℕ) where
   -- An entry matches if its key meets the one bound and the other.
   pub matches-both : (e : Entry) → matches lo hi e ≡ (key_meets_lower lo e.key && key_meets_upper hi e.key)
   matches-both e = by (key_meets_lower lo e.key) refl
@@ -144,7 +144,7 @@ module _ (lo hi : Bound) where
           rw (em, eb, select, drop_to) ih
 
 -- Where the bounds cross, no entry meets both.
-pub crossed-fails : (lo hi : Bound) → crosses lo hi ≡ true → (e : Entry) → meets_lower lo e ≡ true → meets_upper hi e ≡ false
+pub crossed-fails : (lo hi : Bound ℕ) → crosses lo hi ≡ true → (e : Entry) → meets_lower lo e ≡ true → meets_upper hi e ≡ false
 crossed-fails Unbounded hi c e m = absurd (true≢false c refl)
 crossed-fails (Included a) Unbounded c e m = absurd (true≢false c refl)
 crossed-fails (Included a) (Included b) c e m = lt-leb e.key b (omega (arith, ltb-true, leb-true))
@@ -154,7 +154,7 @@ crossed-fails (Excluded a) (Included b) c e m = lt-leb e.key b (omega (arith, lt
 crossed-fails (Excluded a) (Excluded b) c e m = le-ltb e.key b (omega (arith, ltb-true, leb-true))
 
 -- Where they do not, an entry below the lower bound meets the upper one.
-uncrossed-meets : (lo hi : Bound) → crosses lo hi ≡ false → (e : Entry) → meets_lower lo e ≡ false → meets_upper hi e ≡ true
+uncrossed-meets : (lo hi : Bound ℕ) → crosses lo hi ≡ false → (e : Entry) → meets_lower lo e ≡ false → meets_upper hi e ≡ true
 uncrossed-meets Unbounded hi c e m = absurd (true≢false refl m)
 uncrossed-meets (Included a) Unbounded c e m = refl
 uncrossed-meets (Included a) (Included b) c e m = le-leb e.key b (omega (arith, ltb-false, leb-false))
@@ -164,7 +164,7 @@ uncrossed-meets (Excluded a) (Included b) c e m = le-leb e.key b (omega (arith, 
 uncrossed-meets (Excluded a) (Excluded b) c e m = lt-ltb e.key b (omega (arith, ltb-false, leb-false))
 
 -- So the first entry past the upper bound is the same in the list from the lower bound on.
-pub drop_past : (lo hi : Bound) → crosses lo hi ≡ false → (l : List Entry) → drop_to (past hi) (drop_to (meets_lower lo) l) ≡ drop_to (past hi) l
+pub drop_past : (lo hi : Bound ℕ) → crosses lo hi ≡ false → (l : List Entry) → drop_to (past hi) (drop_to (meets_lower lo) l) ≡ drop_to (past hi) l
 drop_past lo hi c [] = refl
 drop_past lo hi c (x ∷ xs) = by (meets_lower lo x) refl (drop_past lo hi c xs)
   where

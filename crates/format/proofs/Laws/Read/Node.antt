@@ -1,12 +1,10 @@
 -- An accepted archive gives what the readers require of a node, its list, lookup and hollow nodes go one level at a time, and positions fall from node
 -- to child. Assumes nothing.
 use Prim.Native.Nat.{ℕ, zero, suc, ◌+◌, ◌≤◌, ◌<◌}
-use Rattle.std.specs.Prelude.{◌≡◌, refl, false, List, length}
+use Rattle.std.specs.Prelude.{◌≡◌, refl, false, List, length, Option, Some}
 use Rattle.std.proofs.Common.{sym, ◌∙◌, subst, arith}
 use Rattle.std.proofs.Math.ListN.{get_or}
-use Rattle.format.specs.declared.Child.{Child}
 use Rattle.format.specs.declared.Position.{Position}
-use Rattle.format.specs.declared.Child.TheVariants.{At}
 use Rattle.format.specs.Layout.{Layout, leaf_size, inner_size, Limits, Within, nested}
 use Rattle.format.specs.RelPtr.{at, target, absent}
 use Rattle.format.specs.Node.{Kind, leaf, inner, kind_of, child, kind}
@@ -156,8 +154,8 @@ module _ (L : Layout) (M : Limits) (s : List ℕ) where
       go (suc d) h v = record { level = d; fits = omega arith; good = good-below L s d p v ek j q le l }
 
   -- The child that is read at field i lies lower and is such a node; t is a measure equal to the node's position.
-  pub child-falls : {p t : ℕ} (i : ℕ) {r : Child} {q : Position} → p ≡ t → Node L M s p → (get_or s p 0 ≡ 0 → ⊥) → i ≤ L.entries
-      → r ≡ child_at L s (child L p i) → r ≡ At q → (q.0 < t) × Node L M s q.0
+  pub child-falls : {p t : ℕ} (i : ℕ) {r : Option Position} {q : Position} → p ≡ t → Node L M s p → (get_or s p 0 ≡ 0 → ⊥) → i ≤ L.entries
+      → r ≡ child_at L s (child L p i) → r ≡ Some q → (q.0 < t) × Node L M s q.0
   child-falls {p} {t} i {r} {q} m N h le c e =
       let l = child-leads L s (child L p i) q (sym c ∙ e) in
       let n = as-inner N h in

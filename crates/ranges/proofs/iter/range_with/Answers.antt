@@ -1,6 +1,5 @@
 -- `ranges::iter::range_with` meets its contract: the ends that are decided on select what the bounds select.
 use Rattle.std.proofs.Common.{sym, ◌∙◌}
-use Rattle.format.specs.declared.Ends.TheVariants.{Nothing}
 use Rattle.format.specs.Layout.{layout_of, server, nested}
 use Rattle.format.specs.Bytes.{AllBytes}
 use Rattle.format.specs.Entries.{list_at}
@@ -13,7 +12,7 @@ pub returns-in_default : goal.returns-in_default
 returns-in_default c =
     let a = c.args in
     let bytes : AllBytes a.archive.now = λ k. (c.type_inv.archive k).fits in
-    let same = node-ends a.lower a.upper (layout_of a.layout) _ bytes (nested server) a.root.0 Nothing (sym c.in_default.is ∙ c.ends_of.ensures) in
+    let same = node-ends a.lower a.upper (layout_of a.layout) _ bytes (nested server) a.root.0 None (sym c.in_default.is ∙ c.ends_of.ensures) in
     let done = none_written _ a.keys.now a.values.now (same ∙ none-held (list_at (layout_of a.layout) a.archive.now (nested server) a.root.0)) in
     record { written_after = done.0; matching_value = done.1 }
 
