@@ -1,31 +1,35 @@
 -- What the code's tests of an offset tell, and where an offset leads by its bits. Assumes nothing.
-use mathlib.Core.Path.{◌≡◌, ap, ◌∙◌}
-use mathlib.Core.Bool.{true, false}
-use Prim.Native.Nat.{ℕ, suc, ◌+◌, ◌-◌, ◌^◌, ◌≤◌, ◌<◌}
+use Rattle.std.specs.Prelude.{◌≡◌, refl, Bool, true, false, ℕ, zero, suc, ◌+◌, ◌-◌, ◌^◌, ◌≤◌, ◌<◌, ltb, ℤ, pos, ◌+ℤ◌, ◌-ℤ◌, Option, Some, None, SomeIff, Result, Ok, Err, ok_or}
+use Rattle.std.specs.Result.{OkIff, result_ok}
+use Rattle.std.proofs.Common.{ap, sym, ◌∙◌, arith, le-ltb}
+use Rattle.std.proofs.Math.IntN.{sub_ℕ}
 use native.Mathlib.Nat.{pow-suc}
-use native.Mathlib.Omega.{arith}
 use borrow.Author.Tests.{ltb-true, ltb-false}
-use lib.IntN.{ℤ, pos, negsuc, ◌+ℤ◌}
-use lib.Signed.{mag, lt_z}
-use lib.Pow.{pow_pos}
-use Rattle.format.specs.Refusal.{refuses}
+use lib.Signed.{mag}
+use Rattle.format.specs.declared.Refusal.{Refusal}
+use Rattle.format.specs.Refusal.{gives, refuses, number, answer_of}
 use Rattle.format.specs.Signed.{of_twos}
 use Rattle.format.specs.RelPtr.{fit_signed, at, below, position}
 use Rattle.format.proofs.Laws.Numbers.Signed.{of_twos-low, of_twos-high}
-use Rattle.format.proofs.Laws.Numbers.RelPtr.{leads-on, leads-back, leads-below, fits_refused}
+use Rattle.format.proofs.Laws.Numbers.RelPtr.{leads-on, leads-back, leads-below, fits_gives, fits_refused}
 
--- The two tests: below the least number of h + 1 bits, and above the greatest.
-pub below-refused : (h n : ℕ) (z : ℤ) → lt_z z (negsuc (2 ^ h - 1)) ≡ true → fit_signed h n z ≡ refuses n
-below-refused h n (pos m) e = let x : ◌≡◌ {A = ℕ} 0 1 = cc in absurd (omega arith)
-below-refused h n (negsuc m) e = fits_refused h n (negsuc m) (omega (arith, ltb-true (2 ^ h - 1) m e, pow_pos h))
+-- A number that is there exactly if it fits h + 1 bits, or else the refusal.
+pub there-if-it-fits : {P : Type 0} (h : ℕ) (z : ℤ) (why : Refusal) (o : Option ℤ) → (P → mag z < 2 ^ h) → (mag z < 2 ^ h → P) → SomeIff o P z
+    → answer_of (ok_or o why) ≡ fit_signed h (number why) z
+there-if-it-fits h z why (Some x) f g k = ap gives k.1 ∙ sym (fits_gives h (number why) z (f k.0))
+there-if-it-fits h z why None f g k = by (ltb (mag z) (2 ^ h)) refl where
+  by : (b : Bool) → ltb (mag z) (2 ^ h) ≡ b → refuses (number why) ≡ fit_signed h (number why) z
+  by true l = absurd (k (g (ltb-true (mag z) (2 ^ h) l)))
+  by false l = sym (fits_refused h (number why) z (ltb-false (mag z) (2 ^ h) l))
 
-pub above-refused : (h n : ℕ) (z : ℤ) → lt_z (pos (2 ^ h - 1)) z ≡ true → fit_signed h n z ≡ refuses n
-above-refused h n (pos m) e = fits_refused h n (pos m) (omega (arith, ltb-true (2 ^ h - 1) m e, pow_pos h))
-above-refused h n (negsuc m) e = let x : ◌≡◌ {A = ℕ} 0 1 = cc in absurd (omega arith)
+-- A conversion's number is there exactly if its condition holds.
+pub converted : {T E : Type 0} (P : Type 0) (v : T) (r : Result T E) → OkIff r P v → SomeIff (result_ok r) P v
+converted P v (Ok x) k = k
+converted P v (Err e) k = k
 
-pub in-range : (h : ℕ) (z : ℤ) → lt_z z (negsuc (2 ^ h - 1)) ≡ false → lt_z (pos (2 ^ h - 1)) z ≡ false → mag z < 2 ^ h
-in-range h (pos n) e f = omega (arith, ltb-false (2 ^ h - 1) n f, pow_pos h)
-in-range h (negsuc n) e f = omega (arith, ltb-false (2 ^ h - 1) n e, pow_pos h)
+pub difference : (a b : ℕ) → pos a -ℤ pos b ≡ sub_ℕ a b
+difference a zero = rw (le-ltb a zero (omega arith)) (ap pos (omega arith))
+difference a (suc b) = refl
 
 -- ---- where the offset of the bits b leads from p, by what b lacks of the bits of -1
 

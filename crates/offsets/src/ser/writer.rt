@@ -1,37 +1,26 @@
 // The alignment step of a writer (rkyv's src/ser/writer/mod.rs).
 ghost use Rattle.std.specs.Prelude.{◌≡◌};
 ghost use Rattle.format.specs.Align.{is_alignment, align_step};
-ghost use Rattle.offsets.specs.Answers.{aligned_of};
+ghost use Rattle.format.specs.Refusal.{answer_of};
 
-use format::Refusal;
-
-// The next position on an alignment, and the number of zeros before it.
-#[derive(Clone, Copy)]
-pub enum Aligned {
-    At { next: u64, zeros: u64 },
-    Refused(Refusal),
-}
+use format::{Refusal, Step};
 
 fn is_alignment(a: u64) -> bool
     ensures { result ≡ is_alignment a }
 {
-    match a {
-        1 | 2 | 4 | 8 | 16 | 32 => true,
-        _ => false,
-    }
+    matches!(a, 1 | 2 | 4 | 8 | 16 | 32)
 }
 
-pub fn align(pos: u64, alignment: u64) -> Aligned
-    ensures { aligned_of result ≡ align_step pos alignment }
+// The next position on an alignment, and the zeros before it.
+pub fn align(pos: u64, alignment: u64) -> Result<Step, Refusal>
+    ensures { answer_of result ≡ align_step pos alignment }
 {
     if is_alignment(alignment) {
         let zeros = (alignment - pos % alignment) % alignment;
         if zeros <= 0xffff_ffff_ffff_ffff - pos {
-            return Aligned::At {
-                next: pos + zeros,
-                zeros,
-            };
+            let next = pos + zeros;
+            return Ok(Step { next, zeros });
         }
     }
-    Aligned::Refused(Refusal::InvalidAlignment)
+    Err(Refusal::InvalidAlignment)
 }

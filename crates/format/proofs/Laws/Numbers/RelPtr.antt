@@ -36,7 +36,7 @@ unfolding signed_offset
 offset-behind from to l = rw (lt-ltb to from l) (ap (λ (d : ℕ). fit_signed 63 15 (negsuc d)) (omega arith))
 
 -- The stored offset, by what the signed difference answers.
-stored_refused : (h from to n : ℕ) → signed_offset from to ≡ refuses n → stored_offset h from to ≡ refuses n
+pub stored_refused : (h from to n : ℕ) → signed_offset from to ≡ refuses n → stored_offset h from to ≡ refuses n
 unfolding stored_offset
 stored_refused h from to n e = rw e
 

@@ -1,18 +1,12 @@
--- `offsets::rel_ptr::signed_offset`: a law for each way out.
-use Rattle.std.proofs.Common.{rules}
-use Rattle.format.proofs.Laws.Numbers.RelPtr.{offset-ahead, offset-behind, fits_gives, fits_refused}
+-- `offsets::rel_ptr::signed_offset` gives what fits 64 bits.
+use Rattle.std.proofs.Math.IntN.{sub_ℕ}
+use Rattle.format.specs.declared.Refusal.TheVariants.{IsizeOverflow}
+use Rattle.format.specs.RelPtr.{signed_offset}
+use Rattle.offsets.proofs.Offsets.{there-if-it-fits, difference}
 use Rattle.offsets.proofs.rel_ptr.signed_offset.Goals as goal
 
-ruleset laws = (rules, offset-ahead, offset-behind, fits_gives, fits_refused)
-
-pub returns-then-ahead-lt9223372036854775808 : goal.returns-then-ahead-lt9223372036854775808
-returns-then-ahead-lt9223372036854775808 c = search laws
-
-pub returns-then-from-to : goal.returns-then-from-to
-returns-then-from-to c = search laws
-
-pub returns-then-behind-lt9223372036854775808 : goal.returns-then-behind-lt9223372036854775808
-returns-then-behind-lt9223372036854775808 c = search laws
-
 pub returns : goal.returns
-returns c = search laws
+unfolding signed_offset
+returns c =
+    let k = rw (difference c.args.to c.args.from) at c.checked_signed_diff.ensures in
+    rw c.ok_or.ensures.value (there-if-it-fits 63 (sub_ℕ c.args.to c.args.from) IsizeOverflow _ (λ p. p.sfits) (λ l. record { sfits = l }) k)
