@@ -11,10 +11,9 @@ use lib.Dec.{le→leb}
 use lib.IntN.{ℤ, pos, neg_ℤ}
 use lib.ListN.{take, drop}
 use lib.Signed.{mag, ◌≤ℤ◌, ◌<ℤ◌}
-use Rattle.format.specs.declared.CheckAnswer.{CheckAnswer}
-use Rattle.format.specs.declared.CheckAnswer.TheVariants.{Accepted, Refused}
+use Rattle.std.specs.Prelude.{Result, Ok, Err, Option, Some, None}
 use Rattle.format.specs.declared.Refusal.{Refusal}
-use Rattle.format.specs.Refusal.{Answer, gives, refuses, number, check_of}
+use Rattle.format.specs.Refusal.{Answer, gives, refuses, number, answer_of}
 use Rattle.format.specs.Layout.{Layout, Limits}
 use Rattle.format.specs.Check.{Checked, accepted, refused, check_archive}
 use Rattle.format.specs.Lookup.{bytes_of, lookup}
@@ -65,10 +64,10 @@ no_bytes why l e = ap (λ (z : ℤ). take (length_told z) l) e ∙ by (number wh
     by zero = refl
     by (suc r) = refl
 
--- Of an answer of check or certify.
-pub told-counted : {z : ℤ} {a : Answer ℕ} → (c : CheckAnswer) → check_of c ≡ a → z ≡ coded (λ n. n) a → Tells z a
-told-counted (Accepted n) e ez = told-given (sym e) (ez ∙ ap (coded (λ (n : ℕ). n)) (sym e))
-told-counted (Refused why) e ez = told-refused why (sym e) (ez ∙ ap (coded (λ (n : ℕ). n)) (sym e))
+-- Of a number that a call gives.
+pub told-counted : {z : ℤ} {a : Answer ℕ} → (c : Result ℕ Refusal) → answer_of c ≡ a → z ≡ coded (λ n. n) a → Tells z a
+told-counted (Ok n) e ez = told-given (sym e) (ez ∙ ap (coded (λ (n : ℕ). n)) (sym e))
+told-counted (Err why) e ez = told-refused why (sym e) (ez ∙ ap (coded (λ (n : ℕ). n)) (sym e))
 
 module _ {A B : Type 0} (f : A → B) (v : B) {a : Answer A} where
   pub store_given : {x : A} → a ≡ gives x → f x ≡ stored f a v

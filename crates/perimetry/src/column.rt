@@ -4,33 +4,28 @@
 // below 0 and a is not, those with x from a on and those with x up to b.
 ghost use Rattle.std.specs.Prelude.{◌≡◌};
 ghost use Rattle.format.specs.Key.{column_bounds};
-ghost use Rattle.perimetry.specs.Answers.{columns_of};
+ghost use Rattle.format.specs.Refusal.{answer_of};
 
 use crate::degrees::bits_of;
 use crate::key::{Count, key_of};
-use format::{Bound, Packing, Refusal};
+use format::{Column, Packing, Refusal};
+use std::ops::Bound;
 
-#[derive(Clone, Copy)]
-pub struct ColumnBounds {
-    pub lower: Bound,
-    pub upper: Bound,
-}
-
-#[derive(Clone, Copy)]
-pub enum Columns {
-    Bounds(ColumnBounds),
-    Refused(Refusal),
-}
-
-pub fn column_bounds(packing: Packing, examination: u32, eye: u8, a: i8, b: i8) -> Columns
-    ensures { columns_of result ≡ column_bounds packing examination eye a b }
+pub fn column_bounds(
+    packing: Packing,
+    examination: u32,
+    eye: u8,
+    a: i8,
+    b: i8,
+) -> Result<Column, Refusal>
+    ensures { answer_of result ≡ column_bounds packing examination eye a b }
 {
     if examination >= Count::EXAMINATIONS || eye >= Count::EYES {
-        return Columns::Refused(Refusal::KeyFieldOverflow);
+        return Err(Refusal::KeyFieldOverflow);
     }
     let first = bits_of(packing, a);
     let last = bits_of(packing, b);
-    Columns::Bounds(ColumnBounds {
+    Ok(Column {
         lower: Bound::Included(key_of(examination, eye, first, 0, 0)),
         upper: Bound::Included(key_of(examination, eye, last, 0xff, Count::PRESENTATIONS - 1)),
     })

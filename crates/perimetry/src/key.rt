@@ -2,26 +2,10 @@
 // stand in theirs.
 ghost use Rattle.std.specs.Prelude.{◌≡◌, ◌<◌, ◌^◌};
 ghost use Rattle.format.specs.Key.{key_of, pack_key, fields_of};
-ghost use Rattle.perimetry.specs.Answers.{packed_of, unpacked_of};
+ghost use Rattle.format.specs.Refusal.{answer_of};
 
 use crate::degrees::{bits_of, degrees_of};
-use format::{Packing, Refusal};
-
-// The eye is 0 for the right one and 1 for the left; x and y are in degrees.
-#[derive(Clone, Copy)]
-pub struct KeyFields {
-    pub examination: u32,
-    pub eye: u8,
-    pub x: i8,
-    pub y: i8,
-    pub presentation: u32,
-}
-
-#[derive(Clone, Copy)]
-pub enum Packed {
-    Key(u64),
-    Refused(Refusal),
-}
+use format::{KeyFields, Packing, Refusal};
 
 // The bit of the key at which each field starts; the presentation starts at 0.
 #[derive(Clone, Copy)]
@@ -61,16 +45,23 @@ pub(crate) fn key_of(examination: u32, eye: u8, x: u8, y: u8, presentation: u32)
         + presentation as u64
 }
 
-pub fn pack(packing: Packing, examination: u32, eye: u8, x: i8, y: i8, presentation: u32) -> Packed
-    ensures { packed_of result ≡ pack_key packing examination eye x y presentation }
+pub fn pack(
+    packing: Packing,
+    examination: u32,
+    eye: u8,
+    x: i8,
+    y: i8,
+    presentation: u32,
+) -> Result<u64, Refusal>
+    ensures { answer_of result ≡ pack_key packing examination eye x y presentation }
 {
     if examination >= Count::EXAMINATIONS
         || eye >= Count::EYES
         || presentation >= Count::PRESENTATIONS
     {
-        return Packed::Refused(Refusal::KeyFieldOverflow);
+        return Err(Refusal::KeyFieldOverflow);
     }
-    Packed::Key(key_of(
+    Ok(key_of(
         examination,
         eye,
         bits_of(packing, x),
@@ -80,7 +71,7 @@ pub fn pack(packing: Packing, examination: u32, eye: u8, x: i8, y: i8, presentat
 }
 
 pub fn unpack(key: u64, packing: Packing) -> KeyFields
-    ensures { unpacked_of result ≡ fields_of packing key }
+    ensures { result ≡ fields_of packing key }
 {
     KeyFields {
         examination: (key >> LowestBit::EXAMINATION) as u32,
