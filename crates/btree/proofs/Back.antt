@@ -1,4 +1,5 @@
 -- Where a field leads that leads back, in the numbers of the code, and what the code reads of a child. Assumes nothing.
+use Rattle.std.specs.Prelude.{Some, None}
 use mathlib.Core.Path.{◌≡◌, sym, ap, ◌∙◌}
 use mathlib.Core.Bool.{false}
 use mathlib.Core.List.{List}

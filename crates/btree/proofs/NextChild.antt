@@ -1,4 +1,5 @@
 -- Where a reader goes through an inner node's children: what it has so far, followed by what the next child gives. Assumes nothing.
+use Rattle.std.specs.Prelude.{Option, Some, None}
 use Prim.Native.Nat.{ℕ}
 use mathlib.Core.Path.{◌≡◌, sym, ap, ◌∙◌}
 use mathlib.Core.List.{List}

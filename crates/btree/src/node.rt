@@ -7,12 +7,12 @@ ghost use Rattle.format.specs.Readable.{child_at, LeafNode, InnerNode};
 ghost use Rattle.format.specs.Written.{out, put};
 
 use fields::primitive::{u64_at, uint_at};
-use format::{Child, Entry, Layout, Position};
+use format::{Entry, Layout, Position};
 use offsets::rel_ptr::ones;
 
 // The child that field i of an inner node leads to; the field after the lesser children's is the greater child's. 1 marks an absent child; what other
 // bits lack of the bits of -1 is the distance back less one.
-pub fn child_at(archive: &[u8], layout: Layout, pos: Position, i: usize) -> Child
+pub fn child_at(archive: &[u8], layout: Layout, pos: Position, i: usize) -> Option<Position>
     requires { (layout.entries ≤ 15) × InnerNode (layout_of layout) archive.now pos.0 × (i ≤ layout.entries) }
     ensures { result ≡ child_at (layout_of layout) archive.now (child (layout_of layout) pos.0 i) }
 {
@@ -21,10 +21,10 @@ pub fn child_at(archive: &[u8], layout: Layout, pos: Position, i: usize) -> Chil
     let field = p + layout.node() + layout.pointer() * i;
     let bits = uint_at(archive, field, width);
     if bits == 1 {
-        return Child::Absent;
+        return None;
     }
     let back = ones(width) - bits;
-    Child::At(Position(field - 1 - back as usize))
+    Some(Position(field - 1 - back as usize))
 }
 
 // How many slots a leaf uses.

@@ -1,4 +1,5 @@
 -- `ranges::iter::range_with` meets its contract: the ends that are decided on select what the bounds select.
+use Rattle.std.specs.Prelude.{None}
 use Rattle.std.proofs.Common.{sym, ◌∙◌}
 use Rattle.format.specs.Layout.{layout_of, server, nested}
 use Rattle.format.specs.Bytes.{AllBytes}
