@@ -1,4 +1,5 @@
 -- The definitions of the check, case by case, by the answers of the code's tests. Assumes nothing.
+use Rattle.std.specs.Prelude.{Ok, Err}
 use mathlib.Core.Path.{◌≡◌, refl, sym, ◌∙◌, ap}
 use mathlib.Core.Bool.{true, false}
 use mathlib.Core.List.{List}
@@ -18,11 +19,7 @@ use Rattle.subtrees.specs.Entered.{entered}
 use Rattle.subtrees.proofs.NodeAt.{node_at}
 use Rattle.format.specs.declared.Refusal.{Refusal}
 use Rattle.subtrees.specs.Subtree.{placed, opened, Held}
-use Rattle.subtrees.specs.Answers.{ptr_of, refused_ptr, node_of}
-use Rattle.subtrees.specs.declared.archive.PtrAnswer.{PtrAnswer}
-use Rattle.subtrees.specs.declared.node.NodeAnswer.{NodeAnswer}
-use Rattle.subtrees.specs.declared.node.NodeAnswer.TheVariants as node
-use Rattle.subtrees.specs.declared.archive.PtrAnswer.TheVariants.{Inside, Refused}
+use Rattle.subtrees.specs.Answers.{ptr_of}
 use Rattle.subtrees.proofs.Places.{placed-guards, opened-guards}
 
 kind-other : (x : ℕ) → (x ≡ 0 → ⊥) → (x ≡ 1 → ⊥) → kind_of x ≡ other
@@ -48,11 +45,10 @@ module _ (L : Layout) (s : List ℕ) where
       unfolding check_at
       node-placed = node_at L s d start end f p t ∙ sym (placed-guards start end p (head_size L) node_align _)
 
-      pub node-refused : {o : PtrAnswer} {r : Refusal} {a : NodeAnswer} → o ≡ placed start end p (head_size L) node_align → o ≡ Refused r
-          → a ≡ refused_ptr o → node_of a ≡ check_node L s d end start f
-      node-refused e told handed = rw (node-placed, ← e, told, handed, told)
+      pub node-refused : {r : Refusal} → Err r ≡ placed start end p (head_size L) node_align → refused (number r) ≡ check_node L s d end start f
+      node-refused e = rw (node-placed, ← e)
 
-      module _ (e : placed start end p (head_size L) node_align ≡ Inside) where
+      module _ (e : placed start end p (head_size L) node_align ≡ Ok tt) where
         pub node-leaf : get_or s p 0 ≡ 0 → enter L s end start p leaf (entered L s d start p leaf) ≡ check_node L s d end start f
         unfolding kind
         node-leaf z = rw (node-placed, e, z)
@@ -98,16 +94,16 @@ module _ (L : Layout) (s : List ℕ) where
     unfolding enter
     enter-inner = sized (inner_size L) inner
 
-    -- o is the place's answer, and a is what is answered where that is a refusal.
-    module _ {o : PtrAnswer} {r : Refusal} {a : NodeAnswer} (told : o ≡ Refused r) (handed : a ≡ refused_ptr o) where
-      pub leaf-refused : o ≡ opened start end d p (leaf_size L) node_align → node_of a ≡ enter L s end start p leaf (entered L s (d - 1) start p leaf)
-      leaf-refused e = rw (enter-leaf, ← e, told, handed, told)
+    module _ {r : Refusal} where
+      pub leaf-refused : Err r ≡ opened start end d p (leaf_size L) node_align → refused (number r) ≡ enter L s end start p leaf (entered L s (d - 1) start p leaf)
+      leaf-refused e = rw (enter-leaf, ← e)
 
-      pub inner-refused : o ≡ opened start end d p (inner_size L) node_align → node_of a ≡ enter L s end start p inner (entered L s (d - 1) start p inner)
-      inner-refused e = rw (enter-inner, ← e, told, handed, told)
+      pub inner-refused : Err r ≡ opened start end d p (inner_size L) node_align
+          → refused (number r) ≡ enter L s end start p inner (entered L s (d - 1) start p inner)
+      inner-refused e = rw (enter-inner, ← e)
 
     -- n is the count that the code reads of a leaf.
-    module _ (e : opened start end d p (leaf_size L) node_align ≡ Inside) (n : ℕ) (read : n ≡ leaf_count L s p) where
+    module _ (e : opened start end d p (leaf_size L) node_align ≡ Ok tt) (n : ℕ) (read : n ≡ leaf_count L s p) where
       pub leaf-long : L.entries < n → refused 6 ≡ enter L s end start p leaf (entered L s (d - 1) start p leaf)
       unfolding check_body
       leaf-long l = rw (enter-leaf, e, ← read, lt-leb _ _ l)
@@ -116,12 +112,11 @@ module _ (L : Layout) (s : List ℕ) where
       unfolding check_body
       leaf-entries l k = rw (k, enter-leaf, e, ← read, le-leb _ _ l)
 
-    module _ (e : opened start end d p (inner_size L) node_align ≡ Inside) where
-      pub inner-child-refused : {a : NodeAnswer} {r : Refusal} → a ≡ node.Refused r
-          → check_children L s (check_node L s (d - 1 - 1) p) p L.entries 0 start L.entries ≡ refused (number r)
-          → node_of a ≡ enter L s end start p inner (entered L s (d - 1) start p inner)
+    module _ (e : opened start end d p (inner_size L) node_align ≡ Ok tt) where
+      pub inner-child-refused : {r : ℕ} → check_children L s (check_node L s (d - 1 - 1) p) p L.entries 0 start L.entries ≡ refused r
+          → refused r ≡ enter L s end start p inner (entered L s (d - 1) start p inner)
       unfolding check_body
-      inner-child-refused told c = rw (enter-inner, e, c, told)
+      inner-child-refused c = rw (enter-inner, e, c)
 
       pub inner-entries : {n from t : ℕ} → check_children L s (check_node L s (d - 1 - 1) p) p L.entries 0 start L.entries ≡ accepted n from
           → t ≡ p + inner_size L → accepted n t ≡ enter L s end start p inner (entered L s (d - 1) start p inner)

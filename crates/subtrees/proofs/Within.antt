@@ -10,13 +10,7 @@ use Rattle.format.specs.Layout.{Layout}
 use Rattle.format.specs.RelPtr.{absent}
 use Rattle.format.specs.Node.{child}
 use Rattle.format.specs.Check.{Checked, accepted, refused, check_children, check_node}
-use Rattle.format.specs.Refusal.{number}
 use Rattle.format.proofs.Laws.Check.Bounds.{check-bytes}
-use Rattle.format.specs.declared.Position.{Position}
-use Rattle.format.specs.declared.Refusal.{Refusal}
-use Rattle.subtrees.specs.Answers.{node_of}
-use Rattle.subtrees.specs.declared.node.NodeAnswer.{NodeAnswer}
-use Rattle.subtrees.specs.declared.node.NodeAnswer.TheVariants.{Entries, Refused}
 use Rattle.subtrees.proofs.Nodes.{children-absent, children-refused, children-entries, last-absent, last-refused, last-entries}
 
 module _ (L : Layout) (d : ℕ) (s : List ℕ) (p first : ℕ) where
@@ -42,9 +36,8 @@ module _ (L : Layout) (d : ℕ) (s : List ℕ) (p first : ℕ) where
   checked-none h = record { low = h; few = omega arith; rest = rw (sub-zero L.entries) }
 
   -- a is what the check of the node at the field f of child i answers, in a range that ends at q.
-  answered : (start i : ℕ) {f q : ℕ} {a x : NodeAnswer} → f ≡ child L p i → q ≡ p → node_of a ≡ check_node L s d q start f → a ≡ x
-      → visit start (child L p i) ≡ node_of x
-  answered start i field e v k = sym (rw (e, field) at v) ∙ ap node_of k
+  answered : (start i : ℕ) {f q : ℕ} {a : Checked} → f ≡ child L p i → q ≡ p → a ≡ check_node L s d q start f → visit start (child L p i) ≡ a
+  answered start i field e v = sym (rw (e, field) at v)
 
   module _ (i start total : ℕ) (w : ChildrenChecked i start total) (more : i < L.entries) where
     left : L.entries - i ≡ suc (L.entries - (i + 1))
@@ -62,16 +55,16 @@ module _ (L : Layout) (d : ℕ) (s : List ℕ) (p first : ℕ) where
       checked-absent e =
           record { low = w.low; few = w.few; rest = w.rest ∙ rw left (children-absent L s visit p _ i start total (sym read ∙ e) ∙ on start total) }
 
-      module _ (e : b ≡ false) {a : NodeAnswer} {q : ℕ} (ends : q ≡ p) (v : node_of a ≡ check_node L s d q start f) where
-        pub checked_refused : {r : Refusal} → a ≡ Refused r → all ≡ refused (number r)
-        checked_refused k = w.rest ∙ rw left (children-refused L s visit p _ i start total (sym read ∙ e) _ (answered start i field ends v k))
+      module _ (e : b ≡ false) {q : ℕ} (ends : q ≡ p) where
+        pub checked_refused : {r : ℕ} → refused r ≡ check_node L s d q start f → all ≡ refused r
+        checked_refused v = w.rest ∙ rw left (children-refused L s visit p _ i start total (sym read ∙ e) _ (answered start i field ends v))
 
-        pub checked-entries : {m : ℕ} {t : Position} → a ≡ Entries m t → ChildrenChecked (i + 1) t.0 (total + m)
-        checked-entries {m} {t} k =
-            let v = answered start i field ends v k in
-            let b = check-bytes L s d p start (child L p i) m t.0 v in
+        pub checked-entries : {m t : ℕ} → accepted m t ≡ check_node L s d q start f → ChildrenChecked (i + 1) t (total + m)
+        checked-entries {m} {t} v =
+            let v = answered start i field ends v in
+            let b = check-bytes L s d p start (child L p i) m t v in
             let few = w.few in
-            let more = children-entries L s visit p _ i start total (sym read ∙ e) m t.0 v ∙ on t.0 (total + m) in
+            let more = children-entries L s visit p _ i start total (sym read ∙ e) m t v ∙ on t (total + m) in
             record { low = b.1; few = omega arith; rest = w.rest ∙ rw left more }
 
   -- ---- the greater child, where the loop is at its end
@@ -87,13 +80,13 @@ module _ (L : Layout) (d : ℕ) (s : List ℕ) (p first : ℕ) where
       pub whole-absent : b ≡ true → all ≡ accepted total start
       whole-absent e = last ∙ last-absent L s visit p 0 L.entries start total (sym read-last ∙ e)
 
-      module _ (e : b ≡ false) {a : NodeAnswer} {q : ℕ} (ends : q ≡ p) (v : node_of a ≡ check_node L s d q start f) where
-        pub whole-refused : {r : Refusal} → a ≡ Refused r → all ≡ refused (number r)
-        whole-refused k = last ∙ last-refused L s visit p 0 L.entries start total (sym read-last ∙ e) _ (answered start L.entries field ends v k)
+      module _ (e : b ≡ false) {q : ℕ} (ends : q ≡ p) where
+        pub whole-refused : {r : ℕ} → refused r ≡ check_node L s d q start f → all ≡ refused r
+        whole-refused v = last ∙ last-refused L s visit p 0 L.entries start total (sym read-last ∙ e) _ (answered start L.entries field ends v)
 
-        pub whole-entries : {m : ℕ} {t : Position} → a ≡ Entries m t → Whole total m t.0
-        whole-entries {m} {t} k =
-            let v = answered start L.entries field ends v k in
-            let b = check-bytes L s d p start (child L p L.entries) m t.0 v in
+        pub whole-entries : {m t : ℕ} → accepted m t ≡ check_node L s d q start f → Whole total m t
+        whole-entries {m} {t} v =
+            let v = answered start L.entries field ends v in
+            let b = check-bytes L s d p start (child L p L.entries) m t v in
             let few = w.few in
-            record { low = b.1; few = omega arith; is = last ∙ last-entries L s visit p 0 L.entries start total (sym read-last ∙ e) m t.0 v }
+            record { low = b.1; few = omega arith; is = last ∙ last-entries L s visit p 0 L.entries start total (sym read-last ∙ e) m t v }

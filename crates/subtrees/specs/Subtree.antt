@@ -1,29 +1,28 @@
 -- Where bytes may stand: the tests of a place in a range and of the depth left. Document 01, "src/validation/archive", and "The refusals", 2, 3 and 5.
 -- Assumes nothing: these are definitions.
-use Rattle.std.specs.Prelude.{ℕ, ◌+◌, ◌%◌, ◌≤◌, ◌≡◌, true, false, leb, ltb, eqb}
+use Rattle.std.specs.Prelude.{ℕ, ◌+◌, ◌%◌, ◌≤◌, ◌≡◌, true, false, leb, ltb, eqb, Result, Ok, Err}
 use Rattle.format.specs.declared.Position.{Position}
+use Rattle.format.specs.declared.Refusal.{Refusal}
 use Rattle.format.specs.declared.Refusal.TheVariants.{InvalidSubtreePointer, UnalignedPointer, ExceededMaximumSubtreeDepth}
 use Rattle.subtrees.specs.declared.archive.SubtreeRange.{SubtreeRange}
-use Rattle.subtrees.specs.declared.archive.PtrAnswer.{PtrAnswer}
-use Rattle.subtrees.specs.declared.archive.PtrAnswer.TheVariants.{Inside, Refused}
 
 -- `size` bytes at p: 2, they leave the range from `start` to `end`; 3, they are not on their alignment.
-unfoldable pub placed : ℕ → ℕ → ℕ → ℕ → ℕ → PtrAnswer
+unfoldable pub placed : ℕ → ℕ → ℕ → ℕ → ℕ → Result (Unit {0}) Refusal
 placed start end p size align =
     elim (leb start p) [
       | true ↦ elim (leb (p + size) end) [
-        | true ↦ elim (eqb (p % align) 0) [ true ↦ Inside | false ↦ Refused UnalignedPointer ]
-        | false ↦ Refused InvalidSubtreePointer
+        | true ↦ elim (eqb (p % align) 0) [ true ↦ Ok tt | false ↦ Err UnalignedPointer ]
+        | false ↦ Err InvalidSubtreePointer
       ]
-      | false ↦ Refused InvalidSubtreePointer
+      | false ↦ Err InvalidSubtreePointer
     ]
 
 -- 5: "entering would bring depth to 0".
-abbrev pub shallow : ℕ → PtrAnswer
-shallow depth = elim (ltb 1 depth) [ true ↦ Inside | false ↦ Refused ExceededMaximumSubtreeDepth ]
+abbrev pub shallow : ℕ → Result (Unit {0}) Refusal
+shallow depth = elim (ltb 1 depth) [ true ↦ Ok tt | false ↦ Err ExceededMaximumSubtreeDepth ]
 
-unfoldable pub opened : ℕ → ℕ → ℕ → ℕ → ℕ → ℕ → PtrAnswer
-opened start end depth p size align = elim (placed start end p size align) [ Inside ↦ shallow depth | Refused r ↦ Refused r ]
+unfoldable pub opened : ℕ → ℕ → ℕ → ℕ → ℕ → ℕ → Result (Unit {0}) Refusal
+opened start end depth p size align = elim (placed start end p size align) [ Ok u ↦ shallow depth | Err r ↦ Err r ]
 
 -- What a place in the range is.
 pub record Held (start end p size align : ℕ) : Type 0 where

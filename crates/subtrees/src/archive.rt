@@ -12,19 +12,13 @@ pub struct SubtreeRange {
     pub end: Position,
 }
 
-#[derive(Clone, Copy)]
-pub enum PtrAnswer {
-    Inside,
-    Refused(Refusal),
-}
-
 // Whether size bytes at a position lie in the range, on their alignment.
 pub(crate) fn check_subtree_ptr(
     range: SubtreeRange,
     at: Position,
     size: usize,
     align: usize,
-) -> PtrAnswer
+) -> Result<(), Refusal>
     requires { 0 < align }
     ensures { result ≡ placed range.start.0 range.end.0 at.0 size align }
 {
@@ -32,12 +26,12 @@ pub(crate) fn check_subtree_ptr(
     let start = range.start.0;
     let end = range.end.0;
     if from < start || end < from || end - from < size {
-        return PtrAnswer::Refused(Refusal::InvalidSubtreePointer);
+        return Err(Refusal::InvalidSubtreePointer);
     }
     if from % align != 0 {
-        return PtrAnswer::Refused(Refusal::UnalignedPointer);
+        return Err(Refusal::UnalignedPointer);
     }
-    PtrAnswer::Inside
+    Ok(())
 }
 
 // The same, and whether the bytes may be entered with this depth left.
@@ -47,18 +41,15 @@ pub fn in_subtree(
     at: Position,
     size: usize,
     align: usize,
-) -> PtrAnswer
+) -> Result<(), Refusal>
     requires { 0 < align }
     ensures { result ≡ opened range.start.0 range.end.0 depth at.0 size align }
 {
-    let placed = check_subtree_ptr(range, at, size, align);
-    let PtrAnswer::Inside = placed else {
-        return placed;
-    };
+    check_subtree_ptr(range, at, size, align)?;
     if depth <= 1 {
-        return PtrAnswer::Refused(Refusal::ExceededMaximumSubtreeDepth);
+        return Err(Refusal::ExceededMaximumSubtreeDepth);
     }
-    PtrAnswer::Inside
+    Ok(())
 }
 
 // The range of the children of the node at root.

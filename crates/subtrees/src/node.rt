@@ -6,40 +6,20 @@ ghost use Rattle.format.specs.Node.{leaf, inner, child};
 ghost use Rattle.format.specs.Check.{enter, check_node};
 ghost use Rattle.subtrees.specs.Entered.{entered};
 ghost use Rattle.subtrees.specs.Subtree.{Held};
-ghost use Rattle.subtrees.specs.Answers.{refused_ptr, node_of, refused_node, entered_leaf, Enters};
+ghost use Rattle.subtrees.specs.Answers.{node_of, Enters};
 
 use crate::archive::{
-    PtrAnswer, SubtreeRange, check_subtree_ptr, in_subtree, pop_subtree_range, push_subtree_range,
+    SubtreeRange, check_subtree_ptr, in_subtree, pop_subtree_range, push_subtree_range,
 };
 use fields::primitive::uint_at;
-use format::{CheckAnswer, Layout, Position, Refusal};
-use offsets::rel_ptr::{Target, is_invalid_at, rel_ptr_at};
+use format::{Layout, Position, Refusal};
+use offsets::rel_ptr::{is_invalid_at, rel_ptr_at};
 
-// A node's entries and the position that it ends at, or a refusal.
+// What is known of a node and of all below it: the entries, and the position that the node ends at.
 #[derive(Clone, Copy)]
-pub enum NodeAnswer {
-    Entries(usize, Position),
-    Refused(Refusal),
-}
-
-// The refusal of a place, as a node's. It is called with refusals only, and so is the next.
-pub fn refused_ptr(placed: PtrAnswer) -> NodeAnswer
-    ensures { result ≡ refused_ptr placed }
-{
-    match placed {
-        PtrAnswer::Refused(why) => NodeAnswer::Refused(why),
-        PtrAnswer::Inside => NodeAnswer::Refused(Refusal::InvalidSubtreePointer),
-    }
-}
-
-// The refusal of a node, as the archive's.
-pub fn refused_node(node: NodeAnswer) -> CheckAnswer
-    ensures { result ≡ refused_node node }
-{
-    match node {
-        NodeAnswer::Refused(why) => CheckAnswer::Refused(why),
-        NodeAnswer::Entries(_, _) => CheckAnswer::Refused(Refusal::InvalidSubtreePointer),
-    }
+pub struct Subtree {
+    pub entries: usize,
+    pub end: Position,
 }
 
 fn check_leaf_node(
@@ -48,42 +28,29 @@ fn check_leaf_node(
     range: SubtreeRange,
     depth: usize,
     at: Position,
-) -> NodeAnswer
+) -> Result<Subtree, Refusal>
     requires { (layout.entries ≤ 15) × (range.end.0 ≤ length archive.now)
         × Held range.start.0 range.end.0 at.0 (head_size (layout_of layout)) node_align }
     ensures { node_of result ≡ enter (layout_of layout) archive.now range.end.0 range.start.0 at.0 leaf
         (entered (layout_of layout) archive.now (depth - 1) range.start.0 at.0 leaf) }
 {
     let leaf_size = layout.leaf();
-    let entered = in_subtree(range, depth, at, leaf_size, Layout::NODE_ALIGN);
-    let PtrAnswer::Inside = entered else {
-        return refused_ptr(entered);
-    };
+    in_subtree(range, depth, at, leaf_size, Layout::NODE_ALIGN)?;
     let from = at.0;
     let width = layout.width;
-    let count = uint_at(archive, from + layout.node(), width) as usize;
-    if count > layout.entries {
-        return NodeAnswer::Refused(Refusal::InvalidLength);
+    let entries = uint_at(archive, from + layout.node(), width) as usize;
+    if entries > layout.entries {
+        return Err(Refusal::InvalidLength);
     }
-    NodeAnswer::Entries(count, Position(from + leaf_size))
+    let end = Position(from + leaf_size);
+    Ok(Subtree { entries, end })
 }
 
-// What a field leads to, before an inner node's children are checked: a leaf's entries and end, or an inner node's position.
+// What a field leads to, before an inner node's children are checked: a leaf, or an inner node's position.
 #[derive(Clone, Copy)]
 pub enum Entered {
-    Leaf(usize, Position),
+    Leaf(Subtree),
     Inner(Position),
-    Refused(Refusal),
-}
-
-// A leaf's answer, as what a field leads to.
-fn entered_leaf(node: NodeAnswer) -> Entered
-    ensures { result ≡ entered_leaf node }
-{
-    match node {
-        NodeAnswer::Refused(why) => Entered::Refused(why),
-        NodeAnswer::Entries(count, end) => Entered::Leaf(count, end),
-    }
 }
 
 // Follows a field and reads the kind. A leaf is checked whole; of an inner node the first bytes stand in their place.
@@ -93,22 +60,22 @@ pub fn enter_node(
     range: SubtreeRange,
     depth: usize,
     field: Position,
-) -> Entered
+) -> Result<Entered, Refusal>
     requires { (layout.entries ≤ 15) × (range.end.0 ≤ length archive.now) × (field.0 + pointer (layout_of layout) ≤ length archive.now) }
     ensures { Enters (layout_of layout) archive.now range depth field result }
 {
-    let Target::At(at) = rel_ptr_at(archive, layout, field) else {
-        return Entered::Refused(Refusal::InvalidSubtreePointer);
+    let Some(at) = rel_ptr_at(archive, layout, field) else {
+        return Err(Refusal::InvalidSubtreePointer);
     };
-    let placed = check_subtree_ptr(range, at, layout.node(), Layout::NODE_ALIGN);
-    let PtrAnswer::Inside = placed else {
-        return entered_leaf(refused_ptr(placed));
-    };
+    check_subtree_ptr(range, at, layout.node(), Layout::NODE_ALIGN)?;
     let from = at.0;
     match archive[from] {
-        0 => entered_leaf(check_leaf_node(archive, layout, range, depth, at)),
-        1 => Entered::Inner(at),
-        _ => Entered::Refused(Refusal::InvalidKind),
+        0 => {
+            let leaf = check_leaf_node(archive, layout, range, depth, at)?;
+            Ok(Entered::Leaf(leaf))
+        }
+        1 => Ok(Entered::Inner(at)),
+        _ => Err(Refusal::InvalidKind),
     }
 }
 
@@ -129,41 +96,32 @@ pub fn check_inner_node(
     range: SubtreeRange,
     depth: usize,
     at: Position,
-) -> NodeAnswer
+) -> Result<Subtree, Refusal>
     requires { (layout.entries ≤ 15) × (range.end.0 ≤ length archive.now)
         × Held range.start.0 range.end.0 at.0 (head_size (layout_of layout)) node_align }
     ensures { node_of result ≡ enter (layout_of layout) archive.now range.end.0 range.start.0 at.0 inner
         (entered (layout_of layout) archive.now (depth - 1) range.start.0 at.0 inner) }
 {
     let inner_size = layout.inner();
-    let entered = in_subtree(range, depth, at, inner_size, Layout::NODE_ALIGN);
-    let PtrAnswer::Inside = entered else {
-        return refused_ptr(entered);
-    };
+    in_subtree(range, depth, at, inner_size, Layout::NODE_ALIGN)?;
     let end = Position(at.0 + inner_size);
     let mut inside = push_subtree_range(range, at);
-    let mut total = layout.entries;
+    let mut entries = layout.entries;
     for i in 0..layout.entries {
         let field = child_field(layout, at, i);
         if is_invalid_at(archive, layout, field) {
             continue;
         }
-        let lesser = check_node_rel_ptr(archive, layout, inside, depth - 1, field);
-        let NodeAnswer::Entries(count, stop) = lesser else {
-            return lesser;
-        };
-        total += count;
-        inside = pop_subtree_range(inside, stop);
+        let lesser = check_node_rel_ptr(archive, layout, inside, depth - 1, field)?;
+        entries += lesser.entries;
+        inside = pop_subtree_range(inside, lesser.end);
     }
     let field = child_field(layout, at, layout.entries);
-    if is_invalid_at(archive, layout, field) {
-        return NodeAnswer::Entries(total, end);
+    if !is_invalid_at(archive, layout, field) {
+        let greater = check_node_rel_ptr(archive, layout, inside, depth - 1, field)?;
+        entries += greater.entries;
     }
-    let greater = check_node_rel_ptr(archive, layout, inside, depth - 1, field);
-    let NodeAnswer::Entries(count, _) = greater else {
-        return greater;
-    };
-    NodeAnswer::Entries(total + count, end)
+    Ok(Subtree { entries, end })
 }
 
 // The node that a field leads to, with the depth that is left before it is entered.
@@ -174,13 +132,12 @@ fn check_node_rel_ptr(
     range: SubtreeRange,
     depth: usize,
     field: Position,
-) -> NodeAnswer
+) -> Result<Subtree, Refusal>
     requires { (layout.entries ≤ 15) × (range.end.0 ≤ length archive.now) × (field.0 + pointer (layout_of layout) ≤ length archive.now) }
     ensures { node_of result ≡ check_node (layout_of layout) archive.now (depth - 1) range.end.0 range.start.0 field.0 }
 {
-    match enter_node(archive, layout, range, depth, field) {
-        Entered::Refused(why) => NodeAnswer::Refused(why),
-        Entered::Leaf(count, end) => NodeAnswer::Entries(count, end),
+    match enter_node(archive, layout, range, depth, field)? {
+        Entered::Leaf(leaf) => Ok(leaf),
         Entered::Inner(at) => check_inner_node(archive, layout, range, depth, at),
     }
 }

@@ -14,4 +14,4 @@ abbrev pub invariant-check_inner_node-loop-i : goal.invariant-check_inner_node-l
 invariant-check_inner_node-loop-i l =
     let L = layout_of l.layout in
     (l.i ≤ l.layout.entries) × (l.inside.end.0 ≡ l.at.0) × (l.at.0 + inner_size L ≤ length l.archive) × (1 < l.depth)
-    × ChildrenChecked L (l.depth - 1 - 1) l.archive l.at.0 l.initial.inside.start.0 l.i l.inside.start.0 l.total
+    × ChildrenChecked L (l.depth - 1 - 1) l.archive l.at.0 l.initial.inside.start.0 l.i l.inside.start.0 l.entries
