@@ -1,6 +1,7 @@
 -- The definitions of the check of the record and of the whole archive, case by case, by the answers of the code's tests. Assumes nothing.
+use Rattle.std.specs.Prelude.{Result, Ok, Err}
 use mathlib.Core.Path.{◌≡◌, refl, sym, ◌∙◌, ap}
-use mathlib.Core.Bool.{true, false}
+use mathlib.Core.Bool.{Bool, true, false}
 use mathlib.Core.List.{List}
 use Prim.Native.Nat.{ℕ, zero, suc, ◌+◌, ◌-◌, ◌<◌, ◌≤◌}
 use native.Mathlib.Omega.{arith}
@@ -8,18 +9,12 @@ use lib.ListN.{length}
 use lib.Dec.{eqb}
 use borrow.Author.Tests.{le-leb, lt-leb, eq-eqb, ne_eqb}
 use Rattle.format.specs.Layout.{Layout, entries_in_range, record_size, record_align, pointer, Limits, nested}
-use Rattle.format.specs.Refusal.{gives, refuses, check_of}
+use Rattle.format.specs.Refusal.{gives, refuses, number, provided, and_then}
 use Rattle.format.specs.Bytes.{le_at}
-use Rattle.format.specs.Check.{accepted, bind, guard, counted, check_node, root, recorded, check_root, check_archive}
-use Rattle.format.specs.declared.Position.{Position}
+use Rattle.format.specs.Check.{Checked, accepted, refused, bind, guard, counted, check_node, root, recorded, check_root, check_archive}
 use Rattle.format.specs.declared.Refusal.{Refusal}
-use Rattle.format.specs.declared.CheckAnswer.{CheckAnswer}
 use Rattle.subtrees.specs.Subtree.{opened}
-use Rattle.subtrees.specs.Answers.{ptr_of, refused_ptr, node_of, refused_node}
-use Rattle.subtrees.specs.declared.archive.PtrAnswer.{PtrAnswer}
-use Rattle.subtrees.specs.declared.archive.PtrAnswer.TheVariants.{Inside, Refused}
-use Rattle.subtrees.specs.declared.node.NodeAnswer.{NodeAnswer}
-use Rattle.subtrees.specs.declared.node.NodeAnswer.TheVariants as node
+use Rattle.subtrees.specs.Answers.{ptr_of}
 use Rattle.subtrees.proofs.Places.{placed-guards, opened-guards}
 
 module _ (L : Layout) (M : Limits) (s : List ℕ) where
@@ -39,26 +34,27 @@ module _ (L : Layout) (M : Limits) (s : List ℕ) where
           go zero z c = absurd (z refl)
           go (suc n) z c = let w : d - 1 ≡ M.depth - 2 = omega arith in ap (check_root L M s) (sym c) ∙ rw (w, es, ee, ef)
 
-      -- The nodes hold m entries.
-      module _ {m t : ℕ} (v : check_node L s (d - 1) end start f ≡ accepted m t) where
-        pub count-differs : (m ≡ n → ⊥) → refuses 7 ≡ counted (check_root L M s (recorded L s))
-        count-differs o = rw (some, v, ne_eqb m n o)
+      -- The record's answer, by what the nodes give.
+      by-nodes : counted (check_root L M s (recorded L s)) ≡ and_then (counted (check_node L s (d - 1) end start f)) (λ m. provided (eqb m n) 7 (gives m))
+      by-nodes = ap counted some ∙ go (check_node L s (d - 1) end start f)
+        where
+          test : (m next : ℕ) (b : Bool) → counted (guard b 7 (accepted m next)) ≡ provided b 7 (gives m)
+          test m next true = refl
+          test m next false = refl
 
-        pub count-agrees : m ≡ n → gives n ≡ counted (check_root L M s (recorded L s))
-        count-agrees o = rw (some, v, eq-eqb m n o) (ap gives (sym o))
+          go : (a : Checked) → counted (bind a (λ m next. guard (eqb m n) 7 (accepted m next))) ≡ and_then (counted a) (λ m. provided (eqb m n) 7 (gives m))
+          go (accepted m next) = test m next (eqb m n)
+          go (refused r) = refl
 
-      -- a is the answer of the nodes.
-      module _ {a : NodeAnswer} (v : node_of a ≡ check_node L s (d - 1) end start f) where
-        pub root-refused : {r : Refusal} {x : CheckAnswer} → a ≡ node.Refused r → x ≡ refused_node a
-            → check_of x ≡ counted (check_root L M s (recorded L s))
-        root-refused told handed = rw (some, ← v, handed, told)
+      pub root-refused : {r : ℕ} → refuses r ≡ counted (check_node L s (d - 1) end start f) → refuses r ≡ counted (check_root L M s (recorded L s))
+      root-refused v = rw (by-nodes, ← v)
 
-        module _ {m : ℕ} {t : Position} (told : a ≡ node.Entries m t) where
-          pub root-differs : (m ≡ n → ⊥) → refuses 7 ≡ counted (check_root L M s (recorded L s))
-          root-differs o = count-differs (sym v ∙ ap node_of told) o
+      module _ {m : ℕ} (v : gives m ≡ counted (check_node L s (d - 1) end start f)) where
+        pub root-differs : (m ≡ n → ⊥) → refuses 7 ≡ counted (check_root L M s (recorded L s))
+        root-differs o = rw (by-nodes, ← v, ne_eqb m n o)
 
-          pub root-entries : m ≡ n → gives n ≡ counted (check_root L M s (recorded L s))
-          root-entries o = count-agrees (sym v ∙ ap node_of told) o
+        pub root-agrees : m ≡ n → gives n ≡ counted (check_root L M s (recorded L s))
+        root-agrees o = rw (by-nodes, ← v, eq-eqb m n o) (ap gives (sym o))
 
   -- ---- the whole archive
 
@@ -92,11 +88,11 @@ module _ (L : Layout) (M : Limits) (s : List ℕ) where
               le-leb _ _ e,
             )
 
-        -- o is the answer of the record's place.
-        module _ {o : PtrAnswer} (e : o ≡ opened 0 (length s) M.depth (length s - record_size L) (record_size L) (record_align L)) where
-          pub archive-refused : {r : Refusal} {a : NodeAnswer} {x : CheckAnswer} → o ≡ Refused r → a ≡ refused_ptr o → x ≡ refused_node a
-              → check_of x ≡ counted (check_archive L M s)
-          archive-refused told handed back = rw (whole, ← e, told, back, handed, told)
+        abbrev pub opens : Result (Unit {0}) Refusal
+        opens = opened 0 (length s) M.depth (length s - record_size L) (record_size L) (record_align L)
 
-          pub archive-opened : o ≡ Inside → counted (check_root L M s (recorded L s)) ≡ counted (check_archive L M s)
-          archive-opened told = rw (whole, ← e, told)
+        pub archive-refused : {r : Refusal} → Err r ≡ opens → refuses (number r) ≡ counted (check_archive L M s)
+        archive-refused e = rw (whole, ← e)
+
+        pub archive-opened : Ok tt ≡ opens → counted (check_root L M s (recorded L s)) ≡ counted (check_archive L M s)
+        archive-opened e = rw (whole, ← e)
