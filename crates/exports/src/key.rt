@@ -5,7 +5,6 @@ ghost use Rattle.format.specs.Key.{pack_key, fields_of, seen, threshold};
 ghost use Rattle.codes.specs.Answers.{coded, Tells, stored, seen_flag, packing_of};
 
 use codes::refused;
-use perimetry::key::Packed;
 
 // Stores the key of an examination's fields and answers 0.
 #[unsafe(no_mangle)]
@@ -24,8 +23,8 @@ pub extern "C" fn fieldmap_pack(
 {
     let by = codes::packing(packing);
     match fieldmap::pack(by, examination, eye, x, y, presentation) {
-        Packed::Refused(why) => refused(why),
-        Packed::Key(k) => {
+        Err(why) => refused(why),
+        Ok(k) => {
             *key = k;
             0
         }

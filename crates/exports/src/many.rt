@@ -3,9 +3,8 @@ ghost use Rattle.std.specs.Prelude.{◌≡◌};
 ghost use Rattle.codes.specs.Answers.{coded, Tells, layout_by, limits_by};
 ghost use Rattle.lookups.specs.Many.{many_call, many_values};
 
-use codes::{given, refused};
+use codes::counted;
 use format::Limits;
-use readers::ManyAnswer;
 
 // Looks up keys after one check and stores each value that is found at the place of its key. Keys beyond the values' places are not looked up. The number
 // of keys found.
@@ -27,8 +26,6 @@ pub extern "C" fn fieldmap_lookup_many(
         ≡ many_values (layout_by width entries) (limits_by longest depth) archive.now keys.now values.old }
 {
     let layout = codes::layout(width, entries);
-    match readers::look_up_many(archive, layout, Limits { longest, depth }, keys, values) {
-        ManyAnswer::Refused(why) => refused(why),
-        ManyAnswer::Found(n) => given(n),
-    }
+    let limits = Limits { longest, depth };
+    counted(readers::look_up_many(archive, layout, limits, keys, values))
 }

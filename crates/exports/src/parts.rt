@@ -5,8 +5,6 @@ ghost use Rattle.format.specs.Align.{align_step};
 ghost use Rattle.codes.specs.Answers.{coded, Tells, stored, step_next, step_zeros};
 
 use codes::refused;
-use offsets::rel_ptr::{Distance, Stored};
-use offsets::ser::writer::Aligned;
 
 // The signed difference of two positions.
 #[unsafe(no_mangle)]
@@ -16,8 +14,8 @@ pub extern "C" fn fieldmap_signed_offset(from: u64, to: u64, offset: &mut i64) -
     ensures offset { offset.new ≡ stored (λ z. z) (signed_offset from to) offset.old }
 {
     match fieldmap::signed_offset(from, to) {
-        Distance::Refused(why) => refused(why),
-        Distance::Offset(z) => {
+        Err(why) => refused(why),
+        Ok(z) => {
             *offset = z;
             0
         }
@@ -32,8 +30,8 @@ pub extern "C" fn fieldmap_offset32(from: u64, to: u64, offset: &mut i32) -> i64
     ensures offset { offset.new ≡ stored (λ z. z) (stored_offset 31 from to) offset.old }
 {
     match fieldmap::offset32(from, to) {
-        Stored::Refused(why) => refused(why),
-        Stored::Offset(z) => {
+        Err(why) => refused(why),
+        Ok(z) => {
             *offset = z;
             0
         }
@@ -48,8 +46,8 @@ pub extern "C" fn fieldmap_absent_offset(at: u64, offset: &mut i32) -> i64
     ensures offset { offset.new ≡ stored (λ z. z) (absent_offset 31 at) offset.old }
 {
     match fieldmap::absent_offset(at) {
-        Stored::Refused(why) => refused(why),
-        Stored::Offset(z) => {
+        Err(why) => refused(why),
+        Ok(z) => {
             *offset = z;
             0
         }
@@ -65,10 +63,10 @@ pub extern "C" fn fieldmap_align(pos: u64, alignment: u64, next: &mut u64, zeros
     ensures zeros { zeros.new ≡ stored step_zeros (align_step pos alignment) zeros.old }
 {
     match fieldmap::align(pos, alignment) {
-        Aligned::Refused(why) => refused(why),
-        Aligned::At { next: n, zeros: z } => {
-            *next = n;
-            *zeros = z;
+        Err(why) => refused(why),
+        Ok(step) => {
+            *next = step.next;
+            *zeros = step.zeros;
             0
         }
     }

@@ -5,7 +5,6 @@ ghost use Rattle.codes.specs.Answers.{coded, Tells, layout_by, limits_by, stored
 
 use codes::{bound, given, refused};
 use format::Limits;
-use readers::RangeAnswer;
 
 // Writes keys and values of the entries that meet both bounds until the shorter list is full, and stores how many there are. The number written.
 #[unsafe(no_mangle)]
@@ -51,10 +50,10 @@ pub extern "C" fn fieldmap_range(
         keys,
         values,
     ) {
-        RangeAnswer::Refused(why) => refused(why),
-        RangeAnswer::Matched(written, all) => {
-            *matching = all as u64;
-            given(written)
+        Err(why) => refused(why),
+        Ok(matched) => {
+            *matching = matched.matching as u64;
+            given(matched.written)
         }
     }
 }
@@ -106,10 +105,10 @@ pub extern "C" fn fieldmap_column(
         keys,
         values,
     ) {
-        RangeAnswer::Refused(why) => refused(why),
-        RangeAnswer::Matched(written, all) => {
-            *matching = all as u64;
-            given(written)
+        Err(why) => refused(why),
+        Ok(matched) => {
+            *matching = matched.matching as u64;
+            given(matched.written)
         }
     }
 }

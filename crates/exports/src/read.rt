@@ -8,7 +8,6 @@ ghost use Rattle.codes.specs.Answers.{entry_value, entry_position, walk_written,
 
 use codes::{counted, given, refused};
 use format::Limits;
-use readers::{LookupAnswer, WalkAnswer};
 
 // The recorded count, or 24, or the first fault of 1 to 7.
 #[unsafe(no_mangle)]
@@ -73,9 +72,9 @@ pub extern "C" fn fieldmap_lookup(
         archive,
         key,
     ) {
-        LookupAnswer::Refused(why) => refused(why),
-        LookupAnswer::Nothing => 0,
-        LookupAnswer::Entry(e) => {
+        Err(why) => refused(why),
+        Ok(None) => 0,
+        Ok(Some(e)) => {
             *value = e.value;
             *position = e.position.0 as u64;
             1
@@ -108,9 +107,9 @@ pub extern "C" fn fieldmap_lookup_bytes(
         archive,
         key,
     ) {
-        LookupAnswer::Refused(fault) => refused(fault),
-        LookupAnswer::Nothing => 0,
-        LookupAnswer::Entry(e) => {
+        Err(fault) => refused(fault),
+        Ok(None) => 0,
+        Ok(Some(e)) => {
             *start = e.position.0 as u64;
             8
         }
@@ -148,10 +147,10 @@ pub extern "C" fn fieldmap_walk(
         keys,
         values,
     ) {
-        WalkAnswer::Refused(why) => refused(why),
-        WalkAnswer::Walked(written, all) => {
-            *count = all as u64;
-            given(written)
+        Err(why) => refused(why),
+        Ok(walk) => {
+            *count = walk.count as u64;
+            given(walk.written)
         }
     }
 }

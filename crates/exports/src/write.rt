@@ -3,8 +3,7 @@ ghost use Rattle.std.specs.Prelude.{◌≡◌, length};
 ghost use Rattle.format.specs.Build.{build, build_length, out_after};
 ghost use Rattle.codes.specs.Answers.{coded, Tells, layout_by};
 
-use builder::build::BuildAnswer;
-use codes::{given, refused};
+use codes::counted;
 
 // Writes the given entries as an archive behind the first `header` bytes of the output, which stay. The archive's end.
 #[unsafe(no_mangle)]
@@ -20,10 +19,7 @@ pub extern "C" fn fieldmap_build(
     ensures told { Tells result (build (layout_by width entries) keys.now values.now header (length out.old)) }
     ensures bytes { out.new ≡ out_after (layout_by width entries) keys.now values.now header out.old }
 {
-    match fieldmap::build(codes::layout(width, entries), out, header, keys, values) {
-        BuildAnswer::Built(end) => given(end),
-        BuildAnswer::Refused(why) => refused(why),
-    }
+    counted(fieldmap::build(codes::layout(width, entries), out, header, keys, values))
 }
 
 // Where a build of so many entries behind a header will end.
@@ -37,8 +33,5 @@ pub extern "C" fn fieldmap_build_length(
     ensures answer { result ≡ coded (λ n. n) (build_length (layout_by width entries) count header) }
     ensures told { Tells result (build_length (layout_by width entries) count header) }
 {
-    match fieldmap::build_length(codes::layout(width, entries), count, header) {
-        BuildAnswer::Built(end) => given(end),
-        BuildAnswer::Refused(why) => refused(why),
-    }
+    counted(fieldmap::build_length(codes::layout(width, entries), count, header))
 }

@@ -6,7 +6,7 @@
 
 ghost use Rattle.std.specs.Prelude.{◌≡◌, length};
 ghost use Rattle.format.specs.Layout.{layout_of, limits_of};
-ghost use Rattle.format.specs.Refusal.{check_of, number};
+ghost use Rattle.format.specs.Refusal.{answer_of, number};
 ghost use Rattle.format.specs.RelPtr.{signed_offset, stored_offset, absent_offset};
 ghost use Rattle.format.specs.Align.{align_step};
 ghost use Rattle.format.specs.Key.{pack_key, fields_of, seen, threshold};
@@ -15,37 +15,34 @@ ghost use Rattle.format.specs.Certify.{certify};
 ghost use Rattle.format.specs.Build.{build, build_length, out_after};
 ghost use Rattle.format.specs.Calls.{lookup_call, bytes_call, place_call, walk_call, walk_keys, walk_values, range_call, range_keys, range_values, column_call};
 ghost use Rattle.format.specs.Calls.{column_keys, column_values};
-ghost use Rattle.offsets.specs.Answers.{distance_of, stored_of, aligned_of};
-ghost use Rattle.builder.specs.Answers.{built_of};
-ghost use Rattle.perimetry.specs.Answers.{packed_of, unpacked_of};
-ghost use Rattle.readers.specs.Answers.{lookup_of, walk_of, range_of};
 
-use builder::build::BuildAnswer;
-use format::{Bound, CheckAnswer, Layout, Limits, Packing, Refusal};
-use offsets::rel_ptr::{Distance, Stored};
-use offsets::ser::writer::Aligned;
-use perimetry::column::{Columns, column_bounds};
-use perimetry::key::{KeyFields, Packed};
-use readers::{LookupAnswer, RangeAnswer, WalkAnswer};
+use format::{Column, Entry, KeyFields, Layout, Limits, Matched, Packing, Refusal, Step, Walk};
+use perimetry::column::column_bounds;
+use std::ops::Bound;
 
 // The recorded count, or 24, or the first fault of 1 to 7.
-pub fn check(layout: Layout, limits: Limits, archive: &[u8]) -> CheckAnswer
-    ensures { check_of result ≡ counted (check_archive (layout_of layout) (limits_of limits) archive.now) }
+pub fn check(layout: Layout, limits: Limits, archive: &[u8]) -> Result<usize, Refusal>
+    ensures { answer_of result ≡ counted (check_archive (layout_of layout) (limits_of limits) archive.now) }
 {
     validation::check::check(archive, layout, limits)
 }
 
 // The recorded count, or 24, or the first fault of 1 to 9.
-pub fn certify(layout: Layout, limits: Limits, archive: &[u8]) -> CheckAnswer
-    ensures { check_of result ≡ counted (certify (layout_of layout) (limits_of limits) archive.now) }
+pub fn certify(layout: Layout, limits: Limits, archive: &[u8]) -> Result<usize, Refusal>
+    ensures { answer_of result ≡ counted (certify (layout_of layout) (limits_of limits) archive.now) }
 {
     readers::certify(archive, layout, limits)
 }
 
 // The entry that rkyv's search finds. On a certified archive it is the list's with that key, or there is none; on one that is only accepted the
 // search can miss an entry that the walk shows.
-pub fn lookup(layout: Layout, limits: Limits, archive: &[u8], key: u64) -> LookupAnswer
-    ensures { lookup_of result ≡ lookup_call (layout_of layout) (limits_of limits) archive.now key }
+pub fn lookup(
+    layout: Layout,
+    limits: Limits,
+    archive: &[u8],
+    key: u64,
+) -> Result<Option<Entry>, Refusal>
+    ensures { answer_of result ≡ lookup_call (layout_of layout) (limits_of limits) archive.now key }
 {
     readers::lookup(archive, layout, limits, key)
 }
@@ -66,8 +63,8 @@ pub fn walk(
     archive: &[u8],
     keys: &mut [u64],
     values: &mut [u64],
-) -> WalkAnswer
-    ensures answer { walk_of result ≡ walk_call (layout_of layout) (limits_of limits) archive.now keys.old values.old }
+) -> Result<Walk, Refusal>
+    ensures answer { answer_of result ≡ walk_call (layout_of layout) (limits_of limits) archive.now keys.old values.old }
     ensures keys { keys.new
         ≡ walk_keys (layout_of layout) (limits_of limits) archive.now keys.old values.old }
     ensures values { values.new
@@ -81,12 +78,12 @@ pub fn range(
     layout: Layout,
     limits: Limits,
     archive: &[u8],
-    lower: Bound,
-    upper: Bound,
+    lower: Bound<u64>,
+    upper: Bound<u64>,
     keys: &mut [u64],
     values: &mut [u64],
-) -> RangeAnswer
-    ensures answer { range_of result
+) -> Result<Matched, Refusal>
+    ensures answer { answer_of result
         ≡ range_call (layout_of layout) (limits_of limits) archive.now lower upper keys.old values.old }
     ensures keys { keys.new
         ≡ range_keys (layout_of layout) (limits_of limits) archive.now lower upper keys.old values.old }
@@ -110,8 +107,8 @@ pub fn column(
     b: i8,
     keys: &mut [u64],
     values: &mut [u64],
-) -> RangeAnswer
-    ensures answer { range_of result
+) -> Result<Matched, Refusal>
+    ensures answer { answer_of result
         ≡ column_call (layout_of layout) (limits_of limits) archive.now packing examination eye a b keys.old values.old }
     ensures keys { keys.new
         ≡ column_keys (layout_of layout) (limits_of limits) archive.now packing examination eye a b keys.old values.old }
@@ -119,16 +116,10 @@ pub fn column(
         ≡ column_values (layout_of layout) (limits_of limits) archive.now packing examination eye a b keys.old values.old }
 {
     match column_bounds(packing, examination, eye, a, b) {
-        Columns::Bounds(c) => {
-            let lower = c.lower;
-            let upper = c.upper;
-            range(layout, limits, archive, lower, upper, keys, values)
-        }
-        Columns::Refused(why) => {
-            if let CheckAnswer::Refused(first) = certify(layout, limits, archive) {
-                return RangeAnswer::Refused(first);
-            }
-            RangeAnswer::Refused(why)
+        Ok(Column { lower, upper }) => range(layout, limits, archive, lower, upper, keys, values),
+        Err(why) => {
+            certify(layout, limits, archive)?;
+            Err(why)
         }
     }
 }
@@ -140,58 +131,65 @@ pub fn build(
     header: usize,
     keys: &[u64],
     values: &[u64],
-) -> BuildAnswer
-    ensures answer { built_of result ≡ build (layout_of layout) keys.now values.now header (length out.old) }
+) -> Result<usize, Refusal>
+    ensures answer { answer_of result ≡ build (layout_of layout) keys.now values.now header (length out.old) }
     ensures bytes { out.new ≡ out_after (layout_of layout) keys.now values.now header out.old }
 {
     builder::build::build(out, layout, header, keys, values)
 }
 
 // How long the output has to be for so many entries behind a header: where `build` will end.
-pub fn build_length(layout: Layout, entries: usize, header: usize) -> BuildAnswer
-    ensures { built_of result ≡ build_length (layout_of layout) entries header }
+pub fn build_length(layout: Layout, entries: usize, header: usize) -> Result<usize, Refusal>
+    ensures { answer_of result ≡ build_length (layout_of layout) entries header }
 {
     builder::build::build_length(layout, entries, header)
 }
 
 // The signed difference of two positions.
-pub fn signed_offset(from: u64, to: u64) -> Distance
-    ensures { distance_of result ≡ signed_offset from to }
+pub fn signed_offset(from: u64, to: u64) -> Result<i64, Refusal>
+    ensures { answer_of result ≡ signed_offset from to }
 {
     offsets::rel_ptr::signed_offset(from, to)
 }
 
 // The 32-bit offset from a field to a position.
-pub fn offset32(from: u64, to: u64) -> Stored
-    ensures { stored_of result ≡ stored_offset 31 from to }
+pub fn offset32(from: u64, to: u64) -> Result<i32, Refusal>
+    ensures { answer_of result ≡ stored_offset 31 from to }
 {
     offsets::rel_ptr::offset32(from, to)
 }
 
 // The offset that marks an absent pointer at a position.
-pub fn absent_offset(at: u64) -> Stored
-    ensures { stored_of result ≡ absent_offset 31 at }
+pub fn absent_offset(at: u64) -> Result<i32, Refusal>
+    ensures { answer_of result ≡ absent_offset 31 at }
 {
     offsets::rel_ptr::absent_offset(at)
 }
 
 // The next position on an alignment, and the zeros before it.
-pub fn align(pos: u64, alignment: u64) -> Aligned
-    ensures { aligned_of result ≡ align_step pos alignment }
+pub fn align(pos: u64, alignment: u64) -> Result<Step, Refusal>
+    ensures { answer_of result ≡ align_step pos alignment }
 {
     offsets::ser::writer::align(pos, alignment)
 }
 
 // The key of an examination's fields.
-pub fn pack(packing: Packing, examination: u32, eye: u8, x: i8, y: i8, presentation: u32) -> Packed
-    ensures { packed_of result ≡ pack_key packing examination eye x y presentation }
+pub fn pack(
+    packing: Packing,
+    examination: u32,
+    eye: u8,
+    x: i8,
+    y: i8,
+    presentation: u32,
+) -> Result<u64, Refusal>
+    ensures { answer_of result ≡ pack_key packing examination eye x y presentation }
 {
     perimetry::key::pack(packing, examination, eye, x, y, presentation)
 }
 
 // The fields of a key, read by the packing that stored it.
 pub fn unpack(key: u64, packing: Packing) -> KeyFields
-    ensures { unpacked_of result ≡ fields_of packing key }
+    ensures { result ≡ fields_of packing key }
 {
     perimetry::key::unpack(key, packing)
 }

@@ -3,10 +3,10 @@ use mathlib.Core.Path.{◌∙◌, sym, ap}
 use native.Mathlib.Omega.{arith}
 use Rattle.format.specs.Layout.{server}
 use Rattle.format.proofs.Laws.Build.Lengths.{length_most}
-use Rattle.builder.specs.Answers.{built_of}
+use Rattle.format.specs.Refusal.{answer_of}
 use Rattle.exports.proofs.write.fieldmap_build_length.Goals as goal
 
 pub given-requires : goal.given-requires
 unfolding server
 given-requires c =
-    omega (arith, length_most _ _ _ _ (sym c.build_length.ensures ∙ ap built_of c.in-Built.is))
+    omega (arith, length_most _ _ _ _ (sym c.build_length.ensures ∙ ap answer_of c.in-Ok.is))
