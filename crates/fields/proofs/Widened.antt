@@ -11,7 +11,7 @@ use mir.Val.{SFits, hbits, to_z, of_z}
 use mir.Facts.{to_z-of_z}
 
 module _ {w : Width} {z : ℤ} (s : hbits w < 63) (f : SFits w z) where
-  pub widened-fits : SFits w64 (to_z w (of_z w z))
+  widened-fits : SFits w64 (to_z w (of_z w z))
   widened-fits = rw (to_z-of_z f) (sfits_of (lt_of_lt_of_le f.sfits (pow_mono {i = hbits w} {j = 63} (omega arith))))
 
   pub widened : to_z w64 (of_z w64 (to_z w (of_z w z))) ≡ z

@@ -1,6 +1,6 @@
 -- The lookup: what the scan of a node's slots keeps, what the loop down the tree keeps, and that a value that is found lies within the bytes. Assumes
 -- nothing.
-use Rattle.std.specs.Prelude.{Option, Some, None}
+use Rattle.std.specs.Prelude.{Option, Some, None, Result, Ok, Err}
 use mathlib.Core.Path.{◌≡◌, refl, sym, ap, ◌∙◌}
 use Prim.Native.Nat.{ℕ, zero, suc, ◌+◌, ◌-◌, ◌*◌, ◌≤◌, ◌<◌}
 use native.Mathlib.Omega.{arith}
@@ -19,19 +19,17 @@ use Rattle.format.specs.Readable.{LeadsTo, child_at, Node, leaf_g, inner_g, Good
 use Rattle.format.proofs.Laws.Read.Children.{on_child, on-at, on-absent, look-child, child-leads}
 use Rattle.format.proofs.Laws.Read.Node.{kind-leaf, as-leaf, as-inner, lookup-node}
 use Rattle.lookups.specs.Seek.{order_at, seek_at}
-use Rattle.lookups.specs.declared.map.Seek.{Seek}
-use Rattle.lookups.specs.declared.map.Seek.TheVariants.{Equal, Less}
 use Rattle.btree.proofs.Runs.{one_left}
 
 -- ---- the scan of a node's slots
 
 module _ (s : List ℕ) (p key : ℕ) where
   module _ (n i : ℕ) where
-    at_less : order_at s p key i ≡ less → seek_at s p key (suc n) i ≡ Less i
+    at_less : order_at s p key i ≡ less → seek_at s p key (suc n) i ≡ Err i
     unfolding seek_at
     at_less e = rw (e, seek_at)
 
-    at-equal : order_at s p key i ≡ equal → seek_at s p key (suc n) i ≡ Equal i
+    at-equal : order_at s p key i ≡ equal → seek_at s p key (suc n) i ≡ Ok i
     unfolding seek_at
     at-equal e = rw (e, seek_at)
 
@@ -39,30 +37,30 @@ module _ (s : List ℕ) (p key : ℕ) where
     unfolding seek_at
     at_greater e = rw (e, add-one i, seek_at)
 
-  at-end : (i : ℕ) → seek_at s p key 0 i ≡ Less i
+  at-end : (i : ℕ) → seek_at s p key 0 i ≡ Err i
   unfolding seek_at
   at-end i = refl
 
   -- k is the key that the code reads in slot i.
-  module _ (n i k : ℕ) (h : i < n) (e : k ≡ le_at 8 s (p + keys_from + 8 * i)) (q : seek_at s p key (n - i) i ≡ seek_at s p key (n - 0) 0) where
-    pub seek-less : key < k → Less i ≡ seek_at s p key n 0
-    seek-less l = cc (one_left n i h, at_less (n - (i + 1)) i (rw (← e, lt-ltb key k l)), q, sub-zero n)
+  module _ (n i k : ℕ) (h : i < n) (e : k ≡ le_at 8 s (p + keys_from + 8 * i)) (q : seek_at s p key (n - i) i ≡ seek_at s p key n 0) where
+    pub seek-less : key < k → Err i ≡ seek_at s p key n 0
+    seek-less l = cc (one_left n i h, at_less (n - (i + 1)) i (rw (← e, lt-ltb key k l)), q)
 
-    pub seek-equal : k ≤ key → key ≡ k → Equal i ≡ seek_at s p key n 0
-    seek-equal l t = cc (one_left n i h, at-equal (n - (i + 1)) i (rw (← e, le-ltb key k l, eq-eqb key k t)), q, sub-zero n)
+    pub seek-equal : k ≤ key → key ≡ k → Ok i ≡ seek_at s p key n 0
+    seek-equal l t = cc (one_left n i h, at-equal (n - (i + 1)) i (rw (← e, le-ltb key k l, eq-eqb key k t)), q)
 
-    pub seek-greater : k ≤ key → (key ≡ k → ⊥) → seek_at s p key (n - (i + 1)) (i + 1) ≡ seek_at s p key (n - 0) 0
+    pub seek-greater : k ≤ key → (key ≡ k → ⊥) → seek_at s p key (n - (i + 1)) (i + 1) ≡ seek_at s p key n 0
     seek-greater l t = cc (one_left n i h, at_greater (n - (i + 1)) i (rw (← e, le-ltb key k l, ne_eqb key k t)), q)
 
-  pub seek-end : (n i : ℕ) → n ≤ i → seek_at s p key (n - i) i ≡ seek_at s p key (n - 0) 0 → Less i ≡ seek_at s p key n 0
-  seek-end n i h q = let z : n - i ≡ 0 = omega arith in cc (at-end i, sub-zero n)
+  pub seek-end : (n i : ℕ) → i ≤ n → n ≤ i → seek_at s p key (n - i) i ≡ seek_at s p key n 0 → Err n ≡ seek_at s p key n 0
+  seek-end n i l h q = let z : n - i ≡ 0 = omega arith in let w : i ≡ n = omega arith in cc (at-end i, q)
 
 -- ---- the slot that the scan gives is one of the node's
 
 -- A slot below n, or a place not past n.
-abbrev Within : ℕ → Seek → Type 0
-Within n (Equal i) = i < n
-Within n (Less i) = i ≤ n
+abbrev Within : ℕ → Result ℕ ℕ → Type 0
+Within n (Ok i) = i < n
+Within n (Err i) = i ≤ n
 
 module _ (s : List ℕ) (p key : ℕ) where
   scan-within : (n i m : ℕ) → n + i ≡ m → Within m (seek_at s p key n i)
@@ -70,7 +68,7 @@ module _ (s : List ℕ) (p key : ℕ) where
   scan-within zero i m e = omega arith
   scan-within (suc n) i m e = go (order_at s p key i) (scan-within n (suc i) m (omega arith))
     where
-      go : (o : Order) → Within m (seek_at s p key n (suc i)) → Within m (elim o [ less ↦ Less i | equal ↦ Equal i | greater ↦ seek_at s p key n (suc i) ])
+      go : (o : Order) → Within m (seek_at s p key n (suc i)) → Within m (elim o [ less ↦ Err i | equal ↦ Ok i | greater ↦ seek_at s p key n (suc i) ])
       go less h = omega (arith, e)
       go equal h = omega (arith, e)
       go greater h = h
@@ -79,22 +77,22 @@ module _ (s : List ℕ) (p key : ℕ) where
   seek-within n = scan-within n 0 n (omega arith)
 
   -- r is what the scan gave.
-  pub seek-slot : (n i : ℕ) (r : Seek) → r ≡ seek_at s p key n 0 → r ≡ Equal i → i < n
+  pub seek-slot : (n i : ℕ) (r : Result ℕ ℕ) → r ≡ seek_at s p key n 0 → r ≡ Ok i → i < n
   seek-slot n i r e k = rw (sym e ∙ k) at (seek-within n)
 
-  pub seek-child : (n i : ℕ) (r : Seek) → r ≡ seek_at s p key n 0 → r ≡ Less i → i ≤ n
+  pub seek-child : (n i : ℕ) (r : Result ℕ ℕ) → r ≡ seek_at s p key n 0 → r ≡ Err i → i ≤ n
   seek-child n i r e k = rw (sym e ∙ k) at (seek-within n)
 
 -- ---- the lookup in a node, by the scan
 
 module _ (L : Layout) (s : List ℕ) where
-  unfoldable leaf_found : ℕ → Seek → Option Entry
-  leaf_found p (Equal i) = Some (slot L s p i)
-  leaf_found p (Less i) = None
+  unfoldable leaf_found : ℕ → Result ℕ ℕ → Option Entry
+  leaf_found p (Ok i) = Some (slot L s p i)
+  leaf_found p (Err i) = None
 
-  unfoldable inner_found : (ℕ → Option Entry) → ℕ → Seek → Option Entry
-  inner_found g p (Equal i) = Some (slot L s p i)
-  inner_found g p (Less i) = on_child None g (child_at L s (child L p i))
+  unfoldable inner_found : (ℕ → Option Entry) → ℕ → Result ℕ ℕ → Option Entry
+  inner_found g p (Ok i) = Some (slot L s p i)
+  inner_found g p (Err i) = on_child None g (child_at L s (child L p i))
 
   slots-seek : (key p n i : ℕ) → lookup_slots L s key p n i ≡ leaf_found p (seek_at s p key n i)
   unfolding lookup_slots leaf_found seek_at slot
@@ -130,26 +128,26 @@ module _ (L : Layout) (M : Limits) (s : List ℕ) where
 
   -- ---- the loop down the tree: r is what the scan of the node at p gave, and g what the lookup comes to
 
-  module _ (p key : ℕ) (r : Seek) (g : Option Entry) (v : Node L M s p) (t : lookup_at L s key (nested M) p ≡ g) where
+  module _ (p key : ℕ) (r : Result ℕ ℕ) (g : Option Entry) (v : Node L M s p) (t : lookup_at L s key (nested M) p ≡ g) where
     module _ (n : ℕ) (h : get_or s p 0 ≡ 0) (c : n ≡ leaf_count L s p) (q : r ≡ seek_at s p key n 0) where
-      pub leaf-hit : (i : ℕ) (e : Entry) → r ≡ Equal i → e ≡ slot L s p i → Some e ≡ g
+      pub leaf-hit : (i : ℕ) (e : Entry) → r ≡ Ok i → e ≡ slot L s p i → Some e ≡ g
       unfolding leaf_found
       leaf-hit i e k f = cc (lookup-leaf p key v h, t, c, q)
 
-      pub leaf-miss : (i : ℕ) → r ≡ Less i → None ≡ g
+      pub leaf-miss : (i : ℕ) → r ≡ Err i → None ≡ g
       unfolding leaf_found
       leaf-miss i k = cc (lookup-leaf p key v h, t, c, q)
 
     module _ (h : get_or s p 0 ≡ 0 → ⊥) (q : r ≡ seek_at s p key L.entries 0) where
-      pub inner-hit : (i : ℕ) (e : Entry) → r ≡ Equal i → e ≡ slot L s p i → Some e ≡ g
+      pub inner-hit : (i : ℕ) (e : Entry) → r ≡ Ok i → e ≡ slot L s p i → Some e ≡ g
       unfolding inner_found
       inner-hit i e k f = cc (lookup-inner p key v h, t, q)
 
-      pub inner-miss : (i : ℕ) (c : Option Position) → r ≡ Less i → c ≡ child_at L s (child L p i) → c ≡ None → None ≡ g
+      pub inner-miss : (i : ℕ) (c : Option Position) → r ≡ Err i → c ≡ child_at L s (child L p i) → c ≡ None → None ≡ g
       unfolding inner_found
       inner-miss i c k e a = cc (lookup-inner p key v h, on-absent None (lookup_at L s key (nested M)) (child_at L s (child L p i)) (sym e ∙ a), t, q)
 
-      pub inner-down : (i : ℕ) (c : Option Position) (w : Position) → r ≡ Less i → c ≡ child_at L s (child L p i) → c ≡ Some w → lookup_at L s key (nested M) w.0 ≡ g
+      pub inner-down : (i : ℕ) (c : Option Position) (w : Position) → r ≡ Err i → c ≡ child_at L s (child L p i) → c ≡ Some w → lookup_at L s key (nested M) w.0 ≡ g
       unfolding inner_found
       inner-down i c w k e a = cc (lookup-inner p key v h, on-at None (lookup_at L s key (nested M)) (child_at L s (child L p i)) w (sym e ∙ a), t, q)
 
@@ -158,8 +156,8 @@ module _ (L : Layout) (M : Limits) (s : List ℕ) where
   pub leaf-count : {p : ℕ} (n : ℕ) → Node L M s p → get_or s p 0 ≡ 0 → n ≡ leaf_count L s p → n ≤ L.entries
   leaf-count n v h e = let c = (as-leaf L M s v h).count in omega arith
 
-  pub leaf-slot : {p : ℕ} (key n i : ℕ) (r : Seek) → Node L M s p → get_or s p 0 ≡ 0 → n ≡ leaf_count L s p → r ≡ seek_at s p key n 0
-      → r ≡ Equal i → i < L.entries
+  pub leaf-slot : {p : ℕ} (key n i : ℕ) (r : Result ℕ ℕ) → Node L M s p → get_or s p 0 ≡ 0 → n ≡ leaf_count L s p → r ≡ seek_at s p key n 0
+      → r ≡ Ok i → i < L.entries
   leaf-slot {p} key n i r v h e q k = let l = seek-slot s p key n i r q k in let c = leaf-count n v h e in omega arith
 
 -- ---- the value that is found lies within the bytes
@@ -173,10 +171,10 @@ module _ (L : Layout) (s : List ℕ) where
   unfolding slot
   slot-room p i h l = omega arith
 
-  leaf_room : (p n : ℕ) (r : Seek) → p + head_size L ≤ length s → n ≤ L.entries → Within n r → InRoom s (leaf_found L s p r)
+  leaf_room : (p n : ℕ) (r : Result ℕ ℕ) → p + head_size L ≤ length s → n ≤ L.entries → Within n r → InRoom s (leaf_found L s p r)
   unfolding leaf_found
-  leaf_room p n (Equal i) h m w = slot-room p i h (omega arith)
-  leaf_room p n (Less i) h m w = tt
+  leaf_room p n (Ok i) h m w = slot-room p i h (omega arith)
+  leaf_room p n (Err i) h m w = tt
 
   child-room : (g : ℕ → Option Entry) (f : ℕ) → ((q : ℕ) → LeadsTo L s f q → InRoom s (g q)) → InRoom s (on_child None g (child_at L s f))
   unfolding on_child
@@ -186,11 +184,11 @@ module _ (L : Layout) (s : List ℕ) where
       go (Some q) ec = rw ec (e q.0 (child-leads L s f q ec))
       go None ec = rw ec tt
 
-  inner_room : (g : ℕ → Option Entry) (p : ℕ) (r : Seek) → p + head_size L ≤ length s → Within L.entries r
+  inner_room : (g : ℕ → Option Entry) (p : ℕ) (r : Result ℕ ℕ) → p + head_size L ≤ length s → Within L.entries r
       → ((j q : ℕ) → j ≤ L.entries → LeadsTo L s (child L p j) q → InRoom s (g q)) → InRoom s (inner_found L s g p r)
   unfolding inner_found
-  inner_room g p (Equal i) h w e = slot-room p i h w
-  inner_room g p (Less i) h w e = child-room g (child L p i) (λ q l. e i q w l)
+  inner_room g p (Ok i) h w e = slot-room p i h w
+  inner_room g p (Err i) h w e = child-room g (child L p i) (λ q l. e i q w l)
 
   leaf-part : (key : ℕ) (look : ℕ → Option Entry) (p : ℕ) → LeafNode L s p → InRoom s (lookup_body L s key look p leaf)
   unfolding lookup_body

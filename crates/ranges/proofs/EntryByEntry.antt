@@ -92,10 +92,10 @@ module _ (least greatest : ℕ) where
   count es ks vs n = runs-select es (out ks vs n) ∙ counted (select (held (from_to least greatest)) es) ks vs n
 
   -- From the first place of both lists on: m match, and w are written.
-  pub range-written : (es : List Entry) (ks vs : List ℕ) {ks' vs' : List ℕ} {m room w : ℕ} → out ks' vs' m ≡ ranged least greatest es (out ks vs 0)
-      → length ks' ≡ length ks → length vs' ≡ length vs → room ≡ min (length ks') (length vs') → w ≡ min m room
+  pub range-written : (es : List Entry) (ks vs : List ℕ) {ks' vs' : List ℕ} {m w : ℕ} → out ks' vs' m ≡ ranged least greatest es (out ks vs 0)
+      → length ks' ≡ length ks → length vs' ≡ length vs → w ≡ min (min m (length ks')) (length vs')
       → (out ks' vs' w ≡ walked (select (held (from_to least greatest)) es) ks vs) × (m ≡ length (select (held (from_to least greatest)) es))
-  range-written es ks vs {ks'} {vs'} {m} {room} {w} e ek ev er ew =
+  range-written es ks vs {ks'} {vs'} {m} {w} e ek ev ew =
       let found = select (held (from_to least greatest)) es in
       let all = e ∙ count es ks vs 0 in
       let n : m ≡ 0 + length found = ap (λ (o : Out). o.at) all in

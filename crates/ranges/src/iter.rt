@@ -9,25 +9,19 @@ ghost use Rattle.format.specs.Written.{out, walked};
 
 use crate::node::range_node;
 use ends::ends_of;
-use format::{Bound, Ends, Layout, Position};
-
-// What a range answers: the number written and the number matching.
-#[derive(Clone, Copy)]
-pub struct Ranged {
-    pub written: usize,
-    pub matching: usize,
-}
+use format::{Ends, Layout, Matched, Position};
+use std::ops::Bound;
 
 // Writes the entries from the root on whose keys meet both bounds, from the front of both lists until the shorter is full, and counts them all.
 pub fn range_with(
     archive: &[u8],
     layout: Layout,
     root: Position,
-    lower: Bound,
-    upper: Bound,
+    lower: Bound<u64>,
+    upper: Bound<u64>,
     keys: &mut [u64],
     values: &mut [u64],
-) -> Ranged
+) -> Matched
     requires entries_bound { layout.entries ≤ 15 }
     requires node { Node (layout_of layout) server archive.now root.0 }
     requires ascending { Ascending (list_at (layout_of layout) archive.now (nested server) root.0) }
@@ -37,17 +31,15 @@ pub fn range_with(
     ensures matching_value { result.matching
         ≡ length (select (matches lower upper) (list_at (layout_of layout) archive.now (nested server) root.0)) }
 {
-    let none = Ranged {
-        written: 0,
-        matching: 0,
-    };
-    let Ends::Keys { least, greatest } = ends_of(lower, upper) else {
-        return none;
+    let Some(Ends { least, greatest }) = ends_of(lower, upper) else {
+        return Matched {
+            written: 0,
+            matching: 0,
+        };
     };
     let matching = range_node(archive, layout, root, least, greatest, keys, values);
-    let room = fields::least::least(keys.len(), values.len());
-    Ranged {
-        written: fields::least::least(matching, room),
+    Matched {
+        written: matching.min(keys.len()).min(values.len()),
         matching,
     }
 }

@@ -1,20 +1,19 @@
 // A range over the nodes of an archive whose keys ascend (rkyv's src/collections/btree/map/iter.rs), by recursion down the nodes that can have keys
 // from a least to a greatest. rkyv's `key_satisfies_lower` and `key_is_past_upper` are comparisons with these two numbers.
 ghost use Rattle.std.specs.Prelude.{◌≡◌, ◌+◌, ◌^◌, ◌<◌, ◌≤◌, length, get_or};
-ghost use Rattle.format.specs.declared.Ends.TheVariants.{Keys};
 ghost use Rattle.format.specs.Layout.{layout_of, server, nested, head_size};
 ghost use Rattle.format.specs.Bytes.{le_at};
 ghost use Rattle.format.specs.Node.{key_at, leaf_count};
 ghost use Rattle.format.specs.Entries.{slots, list_at};
 ghost use Rattle.format.specs.Certify.{Ascending};
-ghost use Rattle.format.specs.Range.{held, select};
+ghost use Rattle.format.specs.Range.{from_to, held, select};
 ghost use Rattle.format.specs.Readable.{Node, LeafNode};
 ghost use Rattle.format.specs.Written.{out};
 ghost use Rattle.ranges.specs.Taken.{ranged};
 
 use btree::node::{child_at, leaf_len, visit_key_value_raw};
 use fields::primitive::u64_at;
-use format::{Child, Layout, Position};
+use format::{Layout, Position};
 
 // Counts a leaf's slots with keys from `least` to `greatest`, and writes them where both lists have room; stops at the first key past them. `start` is
 // the number that match before it.
@@ -32,7 +31,7 @@ fn range_leaf(
     requires leaf_node { LeafNode (layout_of layout) archive.now pos.0 }
     requires ascending { Ascending (slots (layout_of layout) archive.now pos.0 (leaf_count (layout_of layout) archive.now pos.0) 0) }
     requires pos_bound { start
-        + length (select (held (Keys least greatest)) (slots (layout_of layout) archive.now pos.0 (leaf_count (layout_of layout) archive.now pos.0) 0))
+        + length (select (held (from_to least greatest)) (slots (layout_of layout) archive.now pos.0 (leaf_count (layout_of layout) archive.now pos.0) 0))
         < 2 ^ 64 }
     ensures { out keys.new values.new result
         ≡ ranged least greatest (slots (layout_of layout) archive.now pos.0 (leaf_count (layout_of layout) archive.now pos.0) 0)
@@ -81,20 +80,18 @@ fn range_inner(
 ) -> usize
     requires entries_bound { (layout.entries ≤ 15) × Node (layout_of layout) server archive.now pos.0 × (get_or archive.now pos.0 0 ≡ 0 → ⊥) }
     requires ascending { Ascending (list_at (layout_of layout) archive.now (nested server) pos.0) }
-    requires pos_bound { start + length (select (held (Keys least greatest)) (list_at (layout_of layout) archive.now (nested server) pos.0)) < 2 ^ 64 }
+    requires pos_bound { start + length (select (held (from_to least greatest)) (list_at (layout_of layout) archive.now (nested server) pos.0)) < 2 ^ 64 }
     ensures { out keys.new values.new result
         ≡ ranged least greatest (list_at (layout_of layout) archive.now (nested server) pos.0)
         (out keys.old values.old start) }
 {
     let mut at = start;
-    let mut i = 0;
-    while i <= layout.entries {
+    for i in 0..=layout.entries {
         let key = key_after(archive, layout, pos, i);
         if key < least {
-            i += 1;
             continue;
         }
-        if let Child::At(q) = child_at(archive, layout, pos, i) {
+        if let Some(q) = child_at(archive, layout, pos, i) {
             let p = q.0;
             if archive[p] == 0 {
                 at = range_leaf(archive, layout, q, least, greatest, keys, values, at);
@@ -109,7 +106,6 @@ fn range_inner(
             let _ = visit_key_value_raw(archive, layout, pos, i, keys, values, at);
             at += 1;
         }
-        i += 1;
     }
     at
 }

@@ -1,16 +1,21 @@
--- Laws of a walk that writes to two lists: at full lists, from their fronts, and five slots at once. Assumes nothing.
-use mathlib.Core.Path.{◌≡◌, refl, sym, ap, ◌∙◌}
-use Prim.Native.Nat.{ℕ, suc, ◌+◌, ◌*◌, ◌<◌, ◌≤◌, min}
-use native.Mathlib.Omega.{arith}
-use mathlib.Core.List.{List}
-use lib.ListN.{length, set, length-set}
+-- Laws of a walk that writes to two lists: at full lists, from their fronts, and many slots at once. Assumes nothing.
+use Rattle.std.specs.Prelude.{◌≡◌, ℕ, zero, suc, ◌+◌, ◌-◌, ◌*◌, ◌<◌, ◌≤◌, min, List, [], ◌∷◌, ◌++◌, length, set, map, take, drop}
+use Rattle.std.proofs.Math.Path.{refl}
+use Rattle.std.proofs.Common.{sym, ap, subst, ◌∙◌, add-one, arith, length-set}
+use Rattle.std.proofs.Math.Decide.{dec_lt}
 use Rattle.format.specs.declared.Entry.{Entry}
-use Rattle.format.specs.Layout.{Layout, values_from}
+use Rattle.format.specs.Layout.{Layout, keys_from, values_from}
 use Rattle.format.specs.Bytes.{le_at}
 use Rattle.format.specs.Node.{slot}
 use Rattle.format.specs.Entries.{slots}
 use Rattle.format.specs.Written.{Out, out, put, fill, walked}
-use Rattle.format.proofs.Laws.Read.Written.{runs_none, runs-cons, put-room, fill-full, all-filled}
+use Rattle.format.proofs.Laws.Read.Written.{runs_none, runs-cons, runs_append, put-room, fill-full, all-filled}
+use Rattle.std.specs.List.{range_with_len}
+use Rattle.std.proofs.lemmas.List.Edits.{sets, sets-eq, paste_all}
+use Rattle.std.proofs.lemmas.Slice.{put_mid-paste}
+use borrow.Rule.Slice.PartMut.{put_mid}
+use mathlib.Core.List.{append_assoc}
+use Rattle.std.proofs.lemmas.List.FromFn.{length-map-range_with_len}
 
 pub full-kept : (es : List Entry) (ks vs : List ℕ) (n : ℕ) → min (length ks) (length vs) ≤ n → out ks vs n ≡ fill es (out ks vs n)
 full-kept es ks vs n h = sym (fill-full es ks vs n h)
@@ -18,33 +23,50 @@ full-kept es ks vs n h = sym (fill-full es ks vs n h)
 pub walk-done : (es : List Entry) (ks vs : List ℕ) (o : Out) → o ≡ fill es (out ks vs 0) → o ≡ walked es ks vs
 walk-done es ks vs o e = e ∙ all-filled es ks vs
 
--- ---- a node of five entries, where both lists have room
+-- ---- many slots at once, where both lists have room
 
-module _ (L : Layout) (five : L.entries ≡ 5) (s : List ℕ) (p : ℕ) where
-  -- Slot i at place n: the code reads its key k at x and its value v at y, and goes on at place n' with m slots more.
-  put-slot : {k v : ℕ} (i m : ℕ) {x y n n' : ℕ} (ks vs : List ℕ) → k ≡ le_at 8 s x → v ≡ le_at 8 s y → x ≡ p + 8 + 8 * i → y ≡ p + 48 + 8 * i
-      → n < length ks → n < length vs → n' ≡ n + 1
-      → fill (slots L s p (suc m) i) (out ks vs n) ≡ fill (slots L s p m (suc i)) (out (set ks n k) (set vs n v) n')
+sets-more : (f : ℕ → ℕ) (l : List ℕ) (start i n : ℕ)
+    → sets (set l start (f i)) (start + 1) (map f (range_with_len (suc i) n)) ≡ sets l start (map f (range_with_len i (suc n)))
+sets-more f l start i n = rw (add-one start, add-one i) refl
+
+-- What a copy to a part of a list leaves.
+put-sets : (l ys zs : List ℕ) (start k n : ℕ) → ys ≡ zs → n ≡ k → n ≡ length zs → start + n ≤ length l → put_mid start k l ys ≡ sets l start zs
+put-sets l ys zs start k n e z h r =
+    let room : start + length zs ≤ length l = omega arith in
+    cc (
+      put_mid-paste start k l ys zs n e z h,
+      paste_all l start zs n h,
+      sets-eq zs l start room,
+      append_assoc (take start l) zs (drop (start + n) l),
+    )
+
+module _ (L : Layout) (s : List ℕ) (p : ℕ) where
+  abbrev numbers : ℕ → ℕ → ℕ → List ℕ
+  numbers from i n = map (λ (k : ℕ). le_at 8 s (p + from + 8 * k)) (range_with_len i n)
+
+  slots-set : (n i : ℕ) (ks vs : List ℕ) (start : ℕ) → start + n ≤ length ks → start + n ≤ length vs
+      → fill (slots L s p n i) (out ks vs start) ≡ out (sets ks start (numbers keys_from i n)) (sets vs start (numbers (values_from L) i n)) (start + n)
   unfolding slots slot
-  put-slot {k} {v} i m {x} {y} {n} {n'} ks vs ek ev ex ey h g en =
-      let w : y ≡ p + values_from L + 8 * i = omega arith in
-      let key : k ≡ (slot L s p i).key = ek ∙ ap (le_at 8 s) ex in
-      let value : v ≡ (slot L s p i).value = ev ∙ ap (le_at 8 s) w in
-      cc (runs-cons put (slot L s p i) (slots L s p m (suc i)) (out ks vs n), put-room (slot L s p i) ks vs n h g, key, value, en)
+  slots-set zero i ks vs start h g = let z : start + 0 ≡ start = omega arith in rw z (runs_none put (out ks vs start))
+  slots-set (suc n) i ks vs start h g =
+      let e = slot L s p i in
+      let z : start + 1 + n ≡ start + suc n = omega arith in
+      let k : start + 1 + n ≤ length (set ks start e.key) = simp length-set (omega arith) in
+      let v : start + 1 + n ≤ length (set vs start e.value) = simp length-set (omega arith) in
+      let keys = sets-more (λ (x : ℕ). le_at 8 s (p + keys_from + 8 * x)) ks start i n in
+      let values = sets-more (λ (x : ℕ). le_at 8 s (p + values_from L + 8 * x)) vs start i n in
+      runs-cons put e (slots L s p n (suc i)) (out ks vs start)
+      ∙ ap (fill (slots L s p n (suc i))) (put-room e ks vs start (omega arith) (omega arith))
+      ∙ slots-set n (suc i) (set ks start e.key) (set vs start e.value) (start + 1) k v
+      ∙ cc (keys, values, z)
 
-  -- All five, from place n on.
-  pub put_all : (n : ℕ) (ks vs : List ℕ) {k₀ k₁ k₂ k₃ k₄ v₀ v₁ v₂ v₃ v₄ : ℕ} → n + 5 ≤ length ks → n + 5 ≤ length vs
-      → k₀ ≡ le_at 8 s (p + 8) → k₁ ≡ le_at 8 s (p + 8 + 8) → k₂ ≡ le_at 8 s (p + 8 + 16) → k₃ ≡ le_at 8 s (p + 8 + 24) → k₄ ≡ le_at 8 s (p + 8 + 32)
-      → v₀ ≡ le_at 8 s (p + 48) → v₁ ≡ le_at 8 s (p + 48 + 8) → v₂ ≡ le_at 8 s (p + 48 + 16) → v₃ ≡ le_at 8 s (p + 48 + 24) → v₄ ≡ le_at 8 s (p + 48 + 32)
-      → out (set (set (set (set (set ks n k₀) (n + 1) k₁) (n + 2) k₂) (n + 3) k₃) (n + 4) k₄)
-      (set (set (set (set (set vs n v₀) (n + 1) v₁) (n + 2) v₂) (n + 3) v₃) (n + 4) v₄) (n + 5)
-      ≡ fill (slots L s p 5 0) (out ks vs n)
-  unfolding slots
-  put_all n ks vs h g a₀ a₁ a₂ a₃ a₄ b₀ b₁ b₂ b₃ b₄ =
-      sym (
-      put-slot 0 4 _ _ a₀ b₀ (omega arith) (omega arith) (omega arith) (omega arith) refl
-      ∙ put-slot 1 3 _ _ a₁ b₁ refl refl (simp length-set (omega arith)) (simp length-set (omega arith)) (omega arith)
-      ∙ put-slot 2 2 _ _ a₂ b₂ refl refl (simp length-set (omega arith)) (simp length-set (omega arith)) (omega arith)
-      ∙ put-slot 3 1 _ _ a₃ b₃ refl refl (simp length-set (omega arith)) (simp length-set (omega arith)) (omega arith)
-      ∙ put-slot 4 0 _ _ a₄ b₄ refl refl (simp length-set (omega arith)) (simp length-set (omega arith)) (omega arith)
-      ∙ runs_none put _)
+  -- The code reads the keys as a and the values as b, these from x on.
+  pub slots_put : (n k m : ℕ) (ks vs : List ℕ) (start : ℕ) (a b : List ℕ) (x : ℕ) → start + n ≤ length ks → start + n ≤ length vs → n ≡ k → n ≡ m
+      → a ≡ map (λ (k : ℕ). le_at 8 s (p + 8 + 8 * k)) (range_with_len 0 n) → x ≡ values_from L
+      → b ≡ map (λ (k : ℕ). le_at 8 s (p + x + 8 * k)) (range_with_len 0 n)
+      → out (put_mid start k ks a) (put_mid start m vs b) (start + n) ≡ fill (slots L s p n 0) (out ks vs start)
+  slots_put n k m ks vs start a b x h g z w ea ex eb =
+      let eb' : b ≡ numbers (values_from L) 0 n = subst (λ (y : ℕ). b ≡ numbers y 0 n) ex eb in
+      let one = put-sets ks a (numbers keys_from 0 n) start k n ea z (sym (length-map-range_with_len _ 0 n)) h in
+      let two = put-sets vs b (numbers (values_from L) 0 n) start m n eb' w (sym (length-map-range_with_len _ 0 n)) g in
+      cc (slots-set n 0 ks vs start h g)

@@ -1,4 +1,4 @@
-use Prim.Native.Nat.{◌-◌, ◌≤◌}
+use Prim.Native.Nat.{◌-◌}
 use mathlib.Core.Path.{◌≡◌}
 use Rattle.format.specs.Layout.{layout_of}
 use Rattle.format.specs.Entries.{slots}
@@ -9,7 +9,4 @@ use Rattle.certification.proofs.note_leaf.Given as goal
 abbrev pub invariant-loop-i : goal.invariant-loop-i
 invariant-loop-i l =
     let left = slots (layout_of l.layout) l.archive l.pos.0 in
-    (l.i ≤ l.n) × (runs step (left (l.n - l.i) l.i) l.order ≡ runs step (left (l.n - l.initial.i) l.initial.i) l.initial.order)
-
-abbrev pub decreases-loop-i : goal.decreases-loop-i
-decreases-loop-i l = l.n - l.i
+    runs step (left (l.n - l.i) l.i) l.order ≡ runs step (left (l.n - l.initial.i) l.initial.i) l.initial.order

@@ -17,8 +17,5 @@ invariant-loop-i l =
     × (ranged l.least l.greatest (left l.i) (out l.keys l.values l.at)
     ≡ ranged l.least l.greatest (list_at L l.archive (nested server) l.pos.0) (out l.initial.keys l.initial.values l.initial.at))
 
-abbrev pub decreases-loop-i : goal.decreases-loop-i
-decreases-loop-i l = l.layout.entries + 1 - l.i
-
 abbrev pub decreases-range_inner : goal.decreases-range_inner
 decreases-range_inner l = l.pos.0

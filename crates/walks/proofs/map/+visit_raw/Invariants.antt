@@ -12,11 +12,8 @@ abbrev pub invariant-loop-i : goal.invariant-loop-i
 invariant-loop-i l =
     let L = layout_of l.layout in
     let rest = left [] (list_children L l.archive (list_at L l.archive (nested server)) l.pos.0) l.layout.entries in
-    (l.i ≤ l.layout.entries + 1) × (length l.keys ≡ length l.initial.keys) × (length l.values ≡ length l.initial.values)
+    (length l.keys ≡ length l.initial.keys) × (length l.values ≡ length l.initial.values)
     × (fill (rest l.i) (out l.keys l.values l.at) ≡ fill (rest l.initial.i) (out l.initial.keys l.initial.values l.initial.at))
-
-abbrev pub decreases-loop-i : goal.decreases-loop-i
-decreases-loop-i l = l.layout.entries + 1 - l.i
 
 abbrev pub decreases-visit_raw : goal.decreases-visit_raw
 decreases-visit_raw l = l.pos.0

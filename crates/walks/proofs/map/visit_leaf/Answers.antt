@@ -4,7 +4,7 @@ use borrow.Author.Rules.{rules}
 use Rattle.walks.proofs.map.visit_leaf.Goals as goal
 
 pub loop-i-preserved : goal.loop-i-preserved
-loop-i-preserved c = (search rules, search rules, search rules, search leaf-step)
+loop-i-preserved c = (search rules, search rules, search leaf-step)
 
 pub returns : goal.returns
 returns c = search leaf-done

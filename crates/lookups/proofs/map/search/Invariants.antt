@@ -4,7 +4,7 @@ use lib.ListN.{length}
 use Rattle.format.specs.Layout.{layout_of, leaf_size, server, nested}
 use Rattle.format.specs.Lookup.{lookup_at}
 use Rattle.format.specs.Readable.{Node}
-use Rattle.lookups.proofs.map.get_key_value_raw.Given as goal
+use Rattle.lookups.proofs.map.search.Given as goal
 
 abbrev pub invariant-loop-n : goal.invariant-loop-n
 invariant-loop-n l =

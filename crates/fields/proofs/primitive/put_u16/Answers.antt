@@ -1,8 +1,0 @@
--- `fields::primitive::put_u16` meets its contract. Assumes nothing.
-use native.Mathlib.Numerals.{towards_suc}
-use Rattle.format.specs.Bytes.{le_bytes}
-use Rattle.fields.proofs.primitive.put_u16.Goals as goal
-
-pub returns : goal.returns
-unfolding le_bytes
-returns c = simp towards_suc
