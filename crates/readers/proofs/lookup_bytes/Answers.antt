@@ -1,5 +1,6 @@
 -- `readers::lookup_bytes` meets its contract. Assumes nothing.
-use mathlib.Core.Path.{refl, sym, ◌∙◌}
+use mathlib.Core.Path.{refl, sym, ap, ◌∙◌}
+use Rattle.format.specs.Refusal.{answer_of}
 use native.Mathlib.Omega.{arith}
 use Rattle.format.proofs.Laws.Numbers.Limits.{within-server}
 use Rattle.format.proofs.Laws.Calls.Accepted.{entries-few, node, bytes-refuses, bytes-none, bytes_gives, place-refuses, place_none, place-gives}

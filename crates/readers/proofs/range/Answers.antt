@@ -20,8 +20,8 @@ pub root_of-root-requires : goal.root_of-root-requires
 root_of-root-requires c =
     root-requires _ _ _ _ (certified-accepts _ _ _ _ (sym c.in_ok-count.ensures)) (search)
 
-pub range_with-found-requires : goal.range_with-found-requires
-range_with-found-requires c =
+pub range_with-requires : goal.range_with-requires
+range_with-requires c =
     let certified = sym c.in_ok-count.ensures in
     let accepted = certified-accepts _ _ _ _ certified in record {
       entries_bound = entries-few _ _ _ _ accepted;
@@ -42,8 +42,8 @@ pub returns : goal.returns
 returns c =
     let certified = sym c.in_ok-count.ensures in
     let leads = c.root_of-root.ensures in
-    let written = c.range_with-found.ensures.written_after in
-    let matching = c.range_with-found.ensures.matching_value in record {
+    let written = c.range_with.ensures.written_after in
+    let matching = c.range_with.ensures.matching_value in record {
       answer = sym (range_gives _ _ _ _ certified _ _ _ _ (search) _ leads (within-server _) _ matching _ _ _ written);
       keys = sym (range-keys-gives _ _ _ _ certified _ _ _ _ (search) _ leads (within-server _) _ matching _ _ _ written);
       values = sym (range-values-gives _ _ _ _ certified _ _ _ _ (search) _ leads (within-server _) _ matching _ _ _ written);
