@@ -1,4 +1,5 @@
 -- The archive of the given entries, as its parts are written. Assumes nothing.
+use Rattle.std.specs.Prelude.{Option}
 use mathlib.Core.Path.{◌≡◌, refl, sym, ap, ap₂, ◌∙◌, subst}
 use mathlib.Core.List.{List, [], ◌∷◌}
 use Prim.Native.Nat.{ℕ, zero, suc, ◌+◌, ◌-◌, ◌≤◌, ◌<◌}
@@ -15,9 +16,10 @@ use Rattle.format.proofs.Laws.Build.Given.{length_pairs}
 use Rattle.format.proofs.Laws.Build.Height.{fitting}
 use Rattle.format.proofs.Laws.Build.Weight.{tree-weighs}
 use Rattle.format.proofs.Laws.Build.Longest.{nodes-small}
+use Rattle.nodes.specs.declared.inline_vec.ChildPos.{ChildPos}
 use Rattle.nodes.specs.Nodes.{child_at}
 use Rattle.serialize.specs.declared.map.Place.{Place}
-use Rattle.serialize.specs.Wrote.{from, Given, Ready, WroteTree}
+use Rattle.serialize.specs.Wrote.{from, Ready, Wrote}
 use Rattle.builder.specs.declared.size.Plan.{Plan}
 use Rattle.builder.specs.Size.{Named, first_align_of, nodes_of, Planned}
 use Rattle.builder.proofs.Whole.{record-aligns, first-align, behind-by, none_last, none-height}
@@ -28,9 +30,9 @@ tree_is L [] = rw (none-height L, none_last L)
 tree_is L (e ∷ es) = refl
 
 -- The nodes of a tree stand from s on.
-record Stands (L : Layout) (s : ℕ) (r : Place) (o o' : List ℕ) (b : Branch) : Type 0 where
+record Stands (L : Layout) (s : ℕ) (c : Option ChildPos) (r : Place) (o o' : List ℕ) (b : Branch) : Type 0 where
   at : r.at.0 ≡ s + length_branch L b
-  child : child_at r.child.0 ≡ child_of L b s
+  child : child_at c ≡ child_of L b s
   bytes : o' ≡ put o s (write_branch L b s)
 
 module _ (L : Layout) (ks vs : List ℕ) (h : ℕ) (N : Named L (length ks)) (same : length ks ≡ length vs) {q : Plan} (P : Planned L (length ks) h q) where
@@ -57,25 +59,19 @@ module _ (L : Layout) (ks vs : List ℕ) (h : ℕ) (N : Named L (length ks)) (sa
   parts : q.first + length_branch L tree + record_size L ≡ q.end
   parts = omega (arith, P.first, weighs, P.end)
 
-  pub given : Given L ks vs
-  given = record { lengths = same; small = omega (arith, N.few); few = N.most }
-
   -- The levels fit the entries, also where there are none.
-  levels : (n : ℕ) → (upper L (height L n - 1) + last_level L n ≡ n) × (height L n - 1 ≡ 1 → 0 < last_level L n)
-  levels zero = rw (none-height L, none_last L) (refl, λ e. absurd (omega arith))
+  levels : (n : ℕ) → upper L (height L n - 1) + last_level L n ≡ n
+  levels zero = rw (none-height L, none_last L) refl
   levels (suc n) =
       let F = fitting L one (suc n) (omega arith) in
       let e : height L (suc n) - 1 ≡ F.above = omega (arith, F.height-is) in
-      (omega (arith, ap (upper L) e, F.last-is), λ h. F.last-pos)
-
-  pub some-last : q.above ≡ 1 → 0 < q.last
-  some-last e = omega (arith, P.last, (levels (length ks)).1 (sym P.above ∙ e))
+      omega (arith, ap (upper L) e, F.last-is)
 
   pub first_fits : (h ≤ q.first) × (q.first + record_size L ≤ q.end)
   first_fits = (omega (arith, P.first), omega (arith, parts))
 
   abbrev place : Place
-  place = record { child = record { 0 = 0 }; next = 0; last = q.last; at = record { 0 = q.first } }
+  place = record { next = 0; last = q.last; at = record { 0 = q.first } }
 
   align-most : (n : ℕ) → zeros_to (first_align_of L n) h < 8
   align-most zero = omega (arith, zeros-lt (pointer L) h (record-aligns L.width).0, (record-aligns L.width).1)
@@ -87,20 +83,20 @@ module _ (L : Layout) (ks vs : List ℕ) (h : ℕ) (N : Named L (length ks)) (sa
       let short = nodes-small L N.least N.most (length ks) N.few in
       let f = ap (length_branch L) filled in
       record {
-        enough = omega (arith, u, P.last, (levels (length ks)).0);
+        enough = omega (arith, u, P.last, levels (length ks));
         fits = omega (arith, f, weighs, parts, fits, short, P.first, align-most (length ks));
       }
 
-  module _ {r : Place} {o₁ o₂ : List ℕ} (W : WroteTree L ks vs q.above place o₁ r o₂) where
+  module _ {c : Option ChildPos} {r : Place} {o₁ o₂ : List ℕ} (W : Wrote L ks vs (fill L q.above q.last (from ks vs 0)) place o₁ c r o₂) where
     pub record-fits : r.at.0 + record_size L ≡ q.end
     record-fits = omega (arith, W.at, ap (length_branch L) filled, parts)
 
     pub archive-by : (out o₃ : List ℕ) → o₁ ≡ put out h (replicate (q.first - h) 0)
-        → o₃ ≡ put o₂ r.at.0 (record_bytes L r.at.0 (child_at r.child.0) q.entries)
+        → o₃ ≡ put o₂ r.at.0 (record_bytes L r.at.0 (child_at c) q.entries)
         → o₃ ≡ put out h (behind L h (tree_of L (pairs ks vs)) (length ks))
     unfolding tree
     archive-by out o₃ e₁ e₃ =
         let a = first-align L (pairs ks vs) one ∙ ap (first_align_of L) all in
-        let S = subst (Stands L q.first r o₁ o₂) filled (record { at = W.at; child = W.child; bytes = W.bytes }) in
-        behind-by L tree h (length ks) _ q.first r.at.0 (child_at r.child.0) out o₁ o₂ o₃ a P.first S.at S.child e₁ S.bytes
-        (e₃ ∙ ap (λ (n : ℕ). put o₂ r.at.0 (record_bytes L r.at.0 (child_at r.child.0) n)) P.entries)
+        let S = subst (Stands L q.first c r o₁ o₂) filled (record { at = W.at; child = W.child; bytes = W.bytes }) in
+        behind-by L tree h (length ks) _ q.first r.at.0 (child_at c) out o₁ o₂ o₃ a P.first S.at S.child e₁ S.bytes
+        (e₃ ∙ ap (λ (n : ℕ). put o₂ r.at.0 (record_bytes L r.at.0 (child_at c) n)) P.entries)

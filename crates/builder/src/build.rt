@@ -13,6 +13,7 @@ use format::{Layout, Position, Refusal};
 use nodes::inline_vec::ChildPos;
 use nodes::node::offset_bits;
 use nodes::words::put_zeros;
+use serialize::given::Given;
 use serialize::map::{Place, serialize_from_ordered_iter};
 
 // What a build answers: the archive's end, or a refusal.
@@ -58,9 +59,9 @@ fn ascending(keys: &[u64]) -> bool
 }
 
 // The record (rkyv's `resolve_from_len`): the root's offset and the count.
-fn resolve_from_len(out: &mut [u8], layout: Layout, at: Position, root: ChildPos, n: usize)
+fn resolve_from_len(out: &mut [u8], layout: Layout, at: Position, root: Option<ChildPos>, n: usize)
     requires { at.0 + record_size (layout_of layout) ≤ length out.old }
-    ensures { out.new ≡ put out.old at.0 (record_bytes (layout_of layout) at.0 (child_at root.0) n) }
+    ensures { out.new ≡ put out.old at.0 (record_bytes (layout_of layout) at.0 (child_at root) n) }
 {
     let width = layout.width;
     let offset = offset_bits(layout, at, root);
@@ -69,27 +70,23 @@ fn resolve_from_len(out: &mut [u8], layout: Layout, at: Position, root: ChildPos
     put_uint(out, p + layout.pointer(), width, n as u64);
 }
 
-// Zeros behind the header, the nodes and the record.
-fn put_archive(out: &mut [u8], layout: Layout, header: usize, keys: &[u64], values: &[u64], p: Plan)
-    requires named { Named (layout_of layout) (length keys.now) × (length keys.now ≡ length values.now) }
-    requires header_bound { (header ≤ 4096) × Planned (layout_of layout) (length keys.now) header p × (p.end ≤ length out.old) }
+// Writes zeros behind the header, the nodes and the record.
+fn put_archive(out: &mut [u8], given: Given<'_>, header: usize, p: Plan)
+    requires named { Named (layout_of given.layout) (length given.keys.now) }
+    requires header_bound { (header ≤ 4096) × Planned (layout_of given.layout) (length given.keys.now) header p × (p.end ≤ length out.old) }
     ensures { out.new
         ≡ put out.old header
-        (behind (layout_of layout) header (tree_of (layout_of layout) (pairs keys.now values.now)) (length keys.now)) }
+        (behind (layout_of given.entry.layout) header
+        (tree_of (layout_of given.entry.layout) (pairs given.entry.keys.now given.entry.values.now)) (length given.entry.keys.now)) }
 {
     put_zeros(out, header, p.first);
-    let at = Position(p.first);
-    let child = ChildPos(0);
-    let here = Place {
-        child,
+    let mut here = Place {
         next: 0,
         last: p.last,
-        at,
+        at: Position(p.first),
     };
-    let nodes = serialize_from_ordered_iter(out, layout, keys, values, p.above, here);
-    let end = nodes.at;
-    let root = nodes.child;
-    resolve_from_len(out, layout, end, root, p.entries);
+    let root = serialize_from_ordered_iter(out, given, p.above, &mut here);
+    resolve_from_len(out, given.layout, here.at, root, p.entries);
 }
 
 // The given entries as an archive behind the first `header` bytes of the output, which stay.
@@ -129,7 +126,12 @@ pub fn build(
     if !p.fits {
         return BuildAnswer::Refused(Refusal::OffsetOverflow);
     }
-    put_archive(out, layout, header, keys, values, p);
+    let given = Given {
+        layout,
+        keys,
+        values,
+    };
+    put_archive(out, given, header, p);
     BuildAnswer::Built(end)
 }
 

@@ -1,4 +1,4 @@
 -- What the proofs of several functions use.
-mod Texts
+pub mod Texts
 mod Room
 mod Listed

@@ -1,41 +1,54 @@
--- Laws of the text: the whole of it, lines, the first line, and the limit. Assumes nothing.
-use Prim.Native.Nat.{ℕ, ◌+◌, ◌<◌, ◌≤◌}
-use mathlib.Core.Path.{◌≡◌, sym, ap, ◌∙◌}
-use mathlib.Core.List.{List, [], ◌∷◌, ◌++◌, append_assoc, append-nil}
+-- Laws of the text: its room, its lines, the first line, and the limit. Assumes nothing.
+use Prim.Native.Nat.{ℕ, zero, suc, ◌+◌, ◌*◌, ◌<◌, ◌≤◌}
+use mathlib.Core.Path.{◌≡◌, refl, ◌∙◌}
+use mathlib.Core.List.{List, [], ◌∷◌, ◌++◌, append_assoc}
 use native.Mathlib.Numerals.{add-one}
 use native.Mathlib.Omega.{arith}
 use borrow.Author.Tests.{le-ltb, lt-ltb}
-use lib.ListN.{length, take, drop, get_or, length-append, take-append-drop}
-use lib.Seq.{length-take-le}
+use lib.ListN.{length, get_or, length-append}
 use Rattle.format.specs.Layout.{layout32, server}
 use Rattle.format.specs.Refusal.{gives, refuses}
 use Rattle.format.specs.Check.{counted, check_archive}
 use Rattle.format.specs.Certify.{certify}
 use Rattle.format.proofs.Laws.Calls.Accepted.{gives-inv, refuses-inv, certify-refuses}
 use Rattle.text.specs.Decimal.{decimal}
+use Rattle.text.proofs.Texts.{length_decimal}
+use Rattle.listing.specs.declared.Title.{Title}
 use Rattle.listing.specs.declared.Title.TheVariants.{Certified, Open, Refused}
 use Rattle.listing.specs.Listing.{title, title_line, entry_line, first_lines, listing, printed}
 
--- The first r bytes and those behind them.
-pub whole : {p : List ℕ} (x y : List ℕ) (r : ℕ) → r ≤ length x → take r x ≡ p → drop r x ≡ drop r y → (r ≡ length p) × (x ≡ p ++ drop r y)
-whole x y r h e f = (sym (length-take-le r x h) ∙ ap length e, sym (take-append-drop r x) ∙ rw (e, f))
+-- ---- room
+
+pub title_room : (t : Title) → length (title_line t) ≤ 31
+title_room (Certified n) = omega (arith, length-append (decimal n) (10 ∷ []), length_decimal n)
+title_room (Open n) = omega (arith, length-append (decimal n) (10 ∷ []), length_decimal n)
+title_room (Refused n) = omega (arith, length-append (decimal n) (10 ∷ []), length_decimal n)
+
+pub entry_room : (k v : ℕ) → length (entry_line k v) ≤ 42
+entry_room k v = simp length-append (omega (arith, length_decimal k, length_decimal v))
+
+pub lines_room : (ks vs : List ℕ) (n : ℕ) → length (first_lines ks vs n) ≤ 42 * n
+unfolding first_lines
+lines_room ks vs zero = omega arith
+lines_room ks vs (suc n) =
+    let k = get_or ks n 0 in
+    let v = get_or vs n 0 in
+    omega (arith, length-append (first_lines ks vs n) (entry_line k v), entry_room k v, lines_room ks vs n)
+
+-- How much room the parts of the text take.
+pub ruleset room = (length-append, length_decimal, title_room, entry_room, lines_room)
 
 -- ---- lines
 
--- The parts of an entry's line, put one behind the other.
-pub line-put : (t : List ℕ) (k v : ℕ) {a b c d : List ℕ} → a ≡ t ++ decimal k → b ≡ a ++ (32 ∷ []) → c ≡ b ++ decimal v → d ≡ c ++ (10 ∷ [])
-    → d ≡ t ++ entry_line k v
-line-put t k v ea eb ec ed = rw (ed, ec, eb, ea) (simp append_assoc)
+-- What is put behind nothing.
+pub put-first : {x t l : List ℕ} → x ≡ t ++ l → t ≡ [] → x ≡ l
+put-first e f = rw (e, f) refl
 
--- No lines, and one line more.
-pub none-behind : (t ks vs : List ℕ) → t ≡ t ++ first_lines ks vs 0
+-- One line more.
+pub line-more : (t : List ℕ) (ks vs : List ℕ) (i n : ℕ) {x y : List ℕ} {k v : ℕ} → n ≡ i + 1 → k ≡ get_or ks i 0 → v ≡ get_or vs i 0
+    → y ≡ t ++ first_lines ks vs i → x ≡ y ++ entry_line k v → x ≡ t ++ first_lines ks vs n
 unfolding first_lines
-none-behind t ks vs = sym (append-nil t)
-
-pub line-more : {x y : List ℕ} (t ks vs : List ℕ) (i : ℕ) → x ≡ y ++ entry_line (get_or ks i 0) (get_or vs i 0) → y ≡ t ++ first_lines ks vs i
-    → x ≡ t ++ first_lines ks vs (i + 1)
-unfolding first_lines
-line-more t ks vs i e f = e ∙ rw (f, add-one i) (append_assoc t (first_lines ks vs i) _)
+line-more t ks vs i n en ek ev ey ex = ex ∙ rw (ey, ek, ev, en, add-one i) (append_assoc t (first_lines ks vs i) _)
 
 -- ---- the first line
 
@@ -64,10 +77,6 @@ module _ (s : List ℕ) where
   pub printed-too-long : 65536 < length s → title_line (Refused 1) ≡ printed s
   unfolding printed
   printed-too-long h = rw (lt-ltb 65536 (length s) h)
-
-  -- The text has room for what is printed.
-  pub printed-fits : {r : ℕ} {x : List ℕ} (rest : List ℕ) → r ≡ length (printed s) → x ≡ printed s ++ rest → r ≤ length x
-  printed-fits rest e f = omega (arith, e, ap length f, length-append (printed s) rest)
 
   pub printed-archive : length s ≤ 65536 → listing s ≡ printed s
   unfolding printed

@@ -2,8 +2,8 @@
 // entry of the walk, key and value on a line. More than 65,536 bytes are refused. The text is `printed` of specs/Listing.antt.
 #![tactic(auto)]
 
-ghost use Rattle.std.specs.Prelude.{◌≡◌, [], ◌∷◌, ◌++◌, ◌+◌, ◌*◌, ◌≤◌, length, take, drop, IfOk, OnOk, IfSome};
-ghost use Rattle.std.specs.Io.KnownBytes.{Appends};
+ghost use Rattle.std.specs.Prelude.{◌≡◌, [], ◌∷◌, ◌++◌, ◌+◌, ◌*◌, ◌≤◌, length, take, IfOk, OnOk, IfSome};
+ghost use Rattle.std.specs.Io.KnownBytes.{Appends, Consumes};
 ghost use Rattle.text.specs.Decimal.{decimal};
 ghost use Rattle.listing.specs.Listing.{title, title_line, entry_line, first_lines, listing, printed};
 
@@ -11,7 +11,7 @@ use format::{CheckAnswer, Layout, Limits};
 use readers::WalkAnswer;
 use std::io;
 use std::io::{Read, Write};
-use text::{put, put_decimal};
+use text::Text;
 
 // The longest input that is listed, in bytes.
 const LONGEST_INPUT: usize = 65536;
@@ -20,8 +20,13 @@ const LONGEST_INPUT: usize = 65536;
 // each has at most 5 entries of its own.
 const MOST_ENTRIES: usize = 4096;
 
-// Bytes for the longest text: a first line has at most 31, the line of an entry at most 42.
-const LONGEST_TEXT: usize = 31 + 42 * MOST_ENTRIES;
+// Bytes for the longest first line, and for the longest line of an entry.
+const LONGEST_TITLE: usize = 31;
+
+const LONGEST_ENTRY: usize = 42;
+
+// Bytes for the longest text.
+const LONGEST_TEXT: usize = LONGEST_TITLE + LONGEST_ENTRY * MOST_ENTRIES;
 
 // What the first line says: certified or only accepted, with the recorded count, or refused, with the refusal's number.
 #[derive(Clone, Copy)]
@@ -31,6 +36,7 @@ enum Title {
     Refused(u64),
 }
 
+// Tells what the first line says of an archive.
 fn title_of(archive: &[u8]) -> Title
     ensures { result ≡ title archive.now }
 {
@@ -47,23 +53,21 @@ fn title_of(archive: &[u8]) -> Title
     }
 }
 
-// A line at the start of the text: a word and a number.
-fn put_counted(text: &mut [u8], word: &[u8], number: u64) -> usize
-    requires { length word.now + 21 ≤ length text.old }
-    ensures end { result ≤ length word.now + 21 }
-    ensures text { take result text.new ≡ word.now ++ decimal number ++ (10 ∷ []) }
-    ensures rest { drop result text.new ≡ drop result text.old }
+// Puts a line of a word and a number behind the text.
+#[tactic(auto, using(crate::proofs::Texts::room))]
+fn put_counted(text: &mut Text<LONGEST_TEXT>, word: &[u8], number: u64)
+    requires { length text.old + length word.now + 21 ≤ LONGEST_TEXT }
+    ensures { text.new ≡ text.old ++ word.now ++ decimal number ++ (10 ∷ []) }
 {
-    let after_word = put(text, 0, word);
-    let after_number = put_decimal(text, after_word, number);
-    put(text, after_number, b"\n")
+    text.push(word);
+    text.push_decimal(number);
+    text.push(b"\n");
 }
 
-fn put_title(text: &mut [u8], title: Title) -> usize
-    requires { 31 ≤ length text.old }
-    ensures end { result ≤ 31 }
-    ensures text { take result text.new ≡ title_line title }
-    ensures rest { drop result text.new ≡ drop result text.old }
+// Puts the first line behind the text.
+fn put_title(text: &mut Text<LONGEST_TEXT>, title: Title)
+    requires { length text.old + LONGEST_TITLE ≤ LONGEST_TEXT }
+    ensures { text.new ≡ text.old ++ title_line title }
 {
     match title {
         Title::Certified(count) => put_counted(text, b"certified ", count),
@@ -72,46 +76,38 @@ fn put_title(text: &mut [u8], title: Title) -> usize
     }
 }
 
-// The line of an entry.
-fn put_entry(text: &mut [u8], at: usize, key: u64, value: u64) -> usize
-    requires { at + 42 ≤ length text.old }
-    ensures end { (at ≤ result) × (result ≤ at + 42) }
-    ensures text { take result text.new ≡ take at text.old ++ entry_line key value }
-    ensures rest { drop result text.new ≡ drop result text.old }
+// Puts the line of an entry behind the text.
+#[tactic(auto, using(crate::proofs::Texts::room))]
+fn put_entry(text: &mut Text<LONGEST_TEXT>, key: u64, value: u64)
+    requires { length text.old + LONGEST_ENTRY ≤ LONGEST_TEXT }
+    ensures { text.new ≡ text.old ++ entry_line key value }
 {
-    let after_key = put_decimal(text, at, key);
-    let after_space = put(text, after_key, b" ");
-    let after_value = put_decimal(text, after_space, value);
-    put(text, after_value, b"\n")
+    text.push_decimal(key);
+    text.push(b" ");
+    text.push_decimal(value);
+    text.push(b"\n");
 }
 
-// The lines of the first `count` entries.
-fn put_entries(text: &mut [u8], at: usize, keys: &[u64], values: &[u64], count: usize) -> usize
-    requires { (at + 42 * count ≤ length text.old) × (count ≤ length keys.now) × (count ≤ length values.now) }
-    ensures end { (at ≤ result) × (result ≤ at + 42 * count) }
-    ensures text { take result text.new
-        ≡ take at text.old ++ first_lines keys.now values.now count }
-    ensures rest { drop result text.new ≡ drop result text.old }
+// Puts the lines of the entries behind the text.
+fn put_entries(text: &mut Text<LONGEST_TEXT>, keys: &[u64], values: &[u64])
+    requires room { length text.old + LONGEST_ENTRY * length keys.now ≤ LONGEST_TEXT }
+    requires pairs { length keys.now ≡ length values.now }
+    ensures { text.new ≡ text.old ++ first_lines keys.now values.now (length keys.now) }
 {
-    let mut end = at;
-    let mut i = 0;
-    while i < count {
-        end = put_entry(text, end, keys[i], values[i]);
-        i += 1;
+    for (key, value) in keys.iter().zip(values) {
+        put_entry(text, *key, *value);
     }
-    end
 }
 
-// The text of an archive. Its length.
-fn put_listing(text: &mut [u8], archive: &[u8]) -> usize
-    requires { (length archive.now ≤ 65536) × (172063 ≤ length text.old) }
-    ensures end { result ≤ 172063 }
-    ensures text { take result text.new ≡ listing archive.now }
-    ensures rest { drop result text.new ≡ drop result text.old }
+// Puts the text of an archive together.
+fn put_listing(text: &mut Text<LONGEST_TEXT>, archive: &[u8])
+    requires small { length archive.now ≤ LONGEST_INPUT }
+    requires empty { text.old ≡ [] }
+    ensures { text.new ≡ listing archive.now }
 {
     let mut keys = [0u64; MOST_ENTRIES];
     let mut values = [0u64; MOST_ENTRIES];
-    let end = put_title(text, title_of(archive));
+    put_title(text, title_of(archive));
     match fieldmap::walk(
         Layout::COMMON,
         Limits::SERVER,
@@ -119,26 +115,29 @@ fn put_listing(text: &mut [u8], archive: &[u8]) -> usize
         &mut keys,
         &mut values,
     ) {
-        WalkAnswer::Refused(_) => end,
-        WalkAnswer::Walked(written, _) => put_entries(text, end, &keys, &values, written),
+        WalkAnswer::Refused(_) => {}
+        WalkAnswer::Walked(written, _) => {
+            put_entries(text, &keys[..written], &values[..written]);
+        }
     }
 }
 
-// The text of an input of any length. Its length; the bytes behind the text stay.
-fn put_text(text: &mut [u8; LONGEST_TEXT], input: &[u8]) -> usize
-    ensures end { result ≡ length (printed input.now) }
-    ensures text { text.new ≡ printed input.now ++ drop result text.old }
+// Puts the text of an input of any length together.
+fn put_text(text: &mut Text<LONGEST_TEXT>, input: &[u8])
+    requires { text.old ≡ [] }
+    ensures { text.new ≡ printed input.now }
 {
     if input.len() > LONGEST_INPUT {
-        put_title(text, Title::Refused(1))
+        put_title(text, Title::Refused(1));
     } else {
-        put_listing(text, input)
+        put_listing(text, input);
     }
 }
 
-// Reads until the buffer is full or the input ends. How many bytes it put at the buffer's front.
-fn read_full<R: Read>(input: &mut R, buffer: &mut [u8]) -> io::Result<usize>
+// Reads until the buffer is full or the input ends, and tells how many bytes it put at the buffer's front.
+pub fn read_full<R: Read>(input: &mut R, buffer: &mut [u8]) -> io::Result<usize>
     ensures bound { IfOk result (λ n. n ≤ length buffer.new) }
+    ensures consumed { IfOk result (λ n. Consumes (R.remaining input.old) (R.remaining input.new) (take n buffer.new)) }
     ensures bytes { IfOk result (λ n. IfSome (R.remaining input.old) (λ xs. take n buffer.new ≡ take (length buffer.old) xs)) }
 {
     let mut done = 0;
@@ -159,8 +158,8 @@ pub fn list<R: Read, W: Write>(input: &mut R, output: &mut W) -> io::Result<()>
         (λ bytes. Appends (W.contents output.old) (W.contents output.new) (printed bytes))) }
 {
     let mut buffer = [0u8; LONGEST_INPUT + 1];
-    let mut text = [0u8; LONGEST_TEXT];
     let read = read_full(input, &mut buffer)?;
-    let length = put_text(&mut text, &buffer[..read]);
-    output.write_all(&text[..length])
+    let mut text: Text<LONGEST_TEXT> = Text::new();
+    put_text(&mut text, &buffer[..read]);
+    output.write_all(text.as_bytes())
 }

@@ -5,16 +5,18 @@ use mathlib.Core.List.{List, [], ◌∷◌, ◌++◌, map}
 use Prim.Native.Nat.{ℕ, zero, suc, ◌+◌, ◌-◌, ◌*◌, ◌/◌, ◌^◌, ◌≤◌}
 use native.Mathlib.Nat.{suc-ne-zero, suc_inj}
 use native.Mathlib.Omega.{arith}
-use lib.ListN.{length, get_or, replicate, take, drop, length-append, length-take, length-drop}
+use lib.ListN.{length, get_or, replicate, length-append, length-map}
 use Rattle.format.specs.Layout.{Width, two, four, eight, Layout, bytes, pointer, head_size, leaf_size, inner_size}
 use Rattle.format.specs.declared.Position.{Position}
 use Rattle.format.specs.Bytes.{le_bytes, put}
-use Rattle.format.specs.Tree.{KeyValue, Slot, column, head, offset_bytes, lesser_bytes, leaf_bytes, inner_bytes}
+use Rattle.format.specs.Tree as tree
+use Rattle.format.specs.Tree.{KeyValue, column, head, offset_bytes, lesser_bytes, leaf_bytes, inner_bytes}
+use Rattle.nodes.specs.declared.inline_vec.Slot.{Slot}
 use Rattle.format.specs.Build.{pairs}
 use Rattle.format.proofs.Laws.Build.Given.{length_pairs}
 use Rattle.format.proofs.Laws.Build.NodeBytes.{length-column, length-head, length-offset}
 use Rattle.format.proofs.Laws.Numbers.Bytes.{length-le_bytes, le_bytes-add}
-use Rattle.nodes.specs.Nodes.{child_at, words, picked, lessers_bytes, slots_in}
+use Rattle.nodes.specs.Nodes.{child_at, words, picked, lessers, slots_in}
 use Rattle.nodes.proofs.Runs.{put_then}
 
 -- Kind byte, keys, values.
@@ -64,84 +66,56 @@ pair-columns (suc n) (x ∷ a) (y ∷ b) h =
     let more = pair-columns n a b (suc_inj h) in
     (ap (λ (l : List ℕ). le_bytes 8 x ++ l) more.0, ap (λ (l : List ℕ). le_bytes 8 y ++ l) more.1)
 
-drop-pairs : (i : ℕ) (a b : List ℕ) → drop i (pairs a b) ≡ pairs (drop i a) (drop i b)
-drop-pairs zero a b = refl
-drop-pairs (suc i) [] b = refl
-drop-pairs (suc i) (x ∷ a) [] = none (drop i a)
-  where
-    none : (l : List ℕ) → [] ≡ pairs l []
-    none [] = refl
-    none (x ∷ l) = refl
-drop-pairs (suc i) (x ∷ a) (y ∷ b) = drop-pairs i a b
-
-take-pairs : (k : ℕ) (a b : List ℕ) → take k (pairs a b) ≡ pairs (take k a) (take k b)
-take-pairs zero a b = refl
-take-pairs (suc k) [] b = refl
-take-pairs (suc k) (x ∷ a) [] = refl
-take-pairs (suc k) (x ∷ a) (y ∷ b) = ap (λ (l : List KeyValue). record { key = x; value = y } ∷ l) (take-pairs k a b)
-
-part : (i k : ℕ) (l : List ℕ) → i + k ≤ length l → length (take k (drop i l)) ≡ k
-part i k l h = simp (length-take, length-drop) (omega arith)
-
-pub leaf-closed : (L : Layout) (s : List ℕ) (p i k n : ℕ) (ks vs : List ℕ) {o₁ o₂ o₃ : List ℕ} → let e = L.entries in
-    k ≤ e → e ≤ 15 → i + k ≤ length ks → i + k ≤ length vs → n ≡ head_size L → o₁ ≡ put s p (le_bytes 8 0)
-    → o₂ ≡ put (put o₁ (p + 8) (words e (take k (drop i ks)))) (p + 8 + 8 * e) (words e (take k (drop i vs)))
-    → o₃ ≡ put o₂ (p + n) (le_bytes 8 k) → o₃ ≡ put s p (leaf_bytes L (take k (drop i (pairs ks vs))))
+pub leaf-closed : (L : Layout) (s : List ℕ) (p n : ℕ) (ks vs : List ℕ) {o₁ o₂ o₃ : List ℕ} → let e = L.entries in
+    length ks ≡ length vs → length ks ≤ e → e ≤ 15 → n ≡ head_size L → o₁ ≡ put s p (le_bytes 8 0)
+    → o₂ ≡ put (put o₁ (p + 8) (words e ks)) (p + 8 + 8 * e) (words e vs)
+    → o₃ ≡ put o₂ (p + n) (le_bytes 8 (length ks)) → o₃ ≡ put s p (leaf_bytes L (pairs ks vs))
 unfolding leaf_bytes le_bytes
-leaf-closed L s p i k n ks vs h few hk hv en e₁ e₂ e₃ =
-    let a = take k (drop i ks) in
-    let b = take k (drop i vs) in
-    let same : length a ≡ length b = part i k ks hk ∙ sym (part i k vs hv) in
-    let many : length (pairs a b) ≡ k = length_pairs a b same ∙ part i k ks hk in
-    let cols = pair-columns L.entries a b same in
+leaf-closed L s p n ks vs same h few en e₁ e₂ e₃ =
+    let k = length ks in
+    let cols = pair-columns L.entries ks vs same in
     let unused : leaf_size L - (head_size L + pointer L) ≡ 8 - pointer L = omega (arith, leaf-size L) in
-    rw (e₃, e₂, e₁, en, cols.0, cols.1, drop-pairs i ks vs, take-pairs k (drop i ks) (drop i vs), many, unused, count-bytes L.width k (omega arith))
-    (sym (put_then s p (head_size L) (head L 0 (pairs a b)) (le_bytes 8 k) (length-head L 0 _)
-    ∙ ap (λ (l : List ℕ). put l (p + head_size L) (le_bytes 8 k)) (head-put L s p 0 (pairs a b) refl)))
+    rw (e₃, e₂, e₁, en, cols.0, cols.1, length_pairs ks vs same, unused, count-bytes L.width k (omega arith))
+    (sym (put_then s p (head_size L) (head L 0 (pairs ks vs)) (le_bytes 8 k) (length-head L 0 _)
+    ∙ ap (λ (l : List ℕ). put l (p + head_size L) (le_bytes 8 k)) (head-put L s p 0 (pairs ks vs) refl)))
 
 -- ---- an inner node
 
 -- The entries of the slots: what the lists have at their places.
 slot-words : (get : KeyValue → ℕ) (ks vs l : List ℕ) → ((i : ℕ) → get_or l i 0 ≡ get (record { key = get_or ks i 0; value = get_or vs i 0 }))
-    → (n : ℕ) (is cs : List ℕ) → n ≤ length is → n ≤ length cs
-    → words n (picked l is) ≡ column get n (map (λ (x : Slot). x.pair) (slots_in n ks vs is cs))
-slot-words get ks vs l g zero is cs a b = refl
-slot-words get ks vs l g (suc n) [] cs a b = absurd (omega arith)
-slot-words get ks vs l g (suc n) (i ∷ is) [] a b = absurd (omega arith)
-slot-words get ks vs l g (suc n) (i ∷ is) (c ∷ cs) a b =
-    rw (g i) (ap (λ (r : List ℕ). le_bytes 8 (get (record { key = get_or ks i 0; value = get_or vs i 0 })) ++ r)
-    (slot-words get ks vs l g n is cs (omega arith) (omega arith)))
+    → (n : ℕ) (ss : List Slot) → words n (picked l ss) ≡ column get n (map (λ (x : tree.Slot). x.pair) (slots_in ks vs ss))
+slot-words get ks vs l g zero ss = refl
+slot-words get ks vs l g (suc n) [] = ap (λ (r : List ℕ). le_bytes 8 0 ++ r) (slot-words get ks vs l g n [])
+slot-words get ks vs l g (suc n) (s ∷ ss) =
+    rw (g s.place) (ap (λ (r : List ℕ). le_bytes 8 (get (record { key = get_or ks s.place 0; value = get_or vs s.place 0 })) ++ r)
+    (slot-words get ks vs l g n ss))
 
-slot-lessers : (L : Layout) (ks vs : List ℕ) (f n : ℕ) (is cs : List ℕ) → n ≤ length is → n ≤ length cs
-    → lessers_bytes L f n cs ≡ lesser_bytes L f n (map (λ (x : Slot). x.lesser) (slots_in n ks vs is cs))
-slot-lessers L ks vs f zero is cs a b = refl
-slot-lessers L ks vs f (suc n) [] cs a b = absurd (omega arith)
-slot-lessers L ks vs f (suc n) (i ∷ is) [] a b = absurd (omega arith)
-slot-lessers L ks vs f (suc n) (i ∷ is) (c ∷ cs) a b =
-    ap (λ (l : List ℕ). offset_bytes L f (child_at c) ++ l) (slot-lessers L ks vs (f + pointer L) n is cs (omega arith) (omega arith))
+slot-lessers : (ks vs : List ℕ) (ss : List Slot) → lessers ss ≡ map (λ (x : tree.Slot). x.lesser) (slots_in ks vs ss)
+slot-lessers ks vs [] = refl
+slot-lessers ks vs (s ∷ ss) = ap (λ (l : List (Option Position)). child_at s.lesser ∷ l) (slot-lessers ks vs ss)
 
-length-lessers : (L : Layout) (f n : ℕ) (cs : List ℕ) → n ≤ length cs → length (lessers_bytes L f n cs) ≡ pointer L * n
-length-lessers L f zero cs h = omega arith
-length-lessers L f (suc n) [] h = absurd (omega arith)
-length-lessers L f (suc n) (c ∷ cs) h =
-    length-append (offset_bytes L f (child_at c)) _
-    ∙ omega (arith, length-offset L f (child_at c), length-lessers L (f + pointer L) n cs (omega arith))
+length-lessers : (L : Layout) (f : ℕ) (cs : List (Option Position)) → length (lesser_bytes L f (length cs) cs) ≡ pointer L * length cs
+length-lessers L f [] = omega arith
+length-lessers L f (c ∷ cs) =
+    length-append (offset_bytes L f c) _ ∙ omega (arith, length-offset L f c, length-lessers L (f + pointer L) cs)
 
 -- With the numbers that the calls answer: the head's size h, the width w, the node's size n, and the bits v of the greater child's offset.
-pub inner-closed : (L : Layout) (s : List ℕ) (p h w n v : ℕ) (ks vs is cs : List ℕ) (g : Option Position) {o₁ o₂ o₃ o₄ o₅ : List ℕ} → let e = L.entries in
-    e ≤ length is → e ≤ length cs → h ≡ head_size L → w ≡ pointer L → n ≡ inner_size L → le_bytes (pointer L) v ≡ offset_bytes L (p + h + w * e) g
-    → o₁ ≡ put s p (le_bytes 8 1) → o₂ ≡ put (put o₁ (p + 8) (words e (picked ks is))) (p + 8 + 8 * e) (words e (picked vs is))
-    → o₃ ≡ put o₂ (p + h) (lessers_bytes L (p + h) e cs) → o₄ ≡ put o₃ (p + h + w * e) (le_bytes (pointer L) v)
-    → o₅ ≡ put o₄ (p + h + w * e + w) (replicate (p + n - (p + h + w * e + w)) 0) → o₅ ≡ put s p (inner_bytes L p (slots_in e ks vs is cs) g)
+pub inner-closed : (L : Layout) (s : List ℕ) (p h w n v : ℕ) (ks vs : List ℕ) (ss : List Slot) (g : Option Position) {o₁ o₂ o₃ o₄ o₅ : List ℕ} → let e = length ss in
+    e ≡ L.entries → h ≡ head_size L → w ≡ pointer L → n ≡ inner_size L → le_bytes (pointer L) v ≡ offset_bytes L (p + h + w * L.entries) g
+    → o₁ ≡ put s p (le_bytes 8 1) → o₂ ≡ put (put o₁ (p + 8) (words e (picked ks ss))) (p + 8 + 8 * e) (words e (picked vs ss))
+    → o₃ ≡ put o₂ (p + h) (lesser_bytes L (p + h) e (lessers ss)) → o₄ ≡ put o₃ (p + h + w * L.entries) (le_bytes (pointer L) v)
+    → o₅ ≡ put o₄ (p + h + w * L.entries + w) (replicate (p + n - (p + h + w * L.entries + w)) 0) → o₅ ≡ put s p (inner_bytes L p (slots_in ks vs ss) g)
 unfolding inner_bytes le_bytes
-inner-closed L s p h w n v ks vs is cs g hi hc eh ew en ev e₁ e₂ e₃ e₄ e₅ =
+inner-closed L s p h w n v ks vs ss g full eh ew en ev e₁ e₂ e₃ e₄ e₅ =
     let e = L.entries in
-    let es = map (λ (x : Slot). x.pair) (slots_in e ks vs is cs) in
+    let es = map (λ (x : tree.Slot). x.pair) (slots_in ks vs ss) in
     let f = p + head_size L in
-    let fields = lessers_bytes L f e cs in
+    let fields = lesser_bytes L f e (lessers ss) in
     let last = offset_bytes L (f + pointer L * e) g in
     let unused = replicate {A = ℕ} (inner_size L - (head_size L + pointer L * suc e)) 0 in
     let zeros : p + inner_size L - (f + pointer L * e + pointer L) ≡ inner_size L - (head_size L + pointer L * suc e) = omega arith in
+    let many : length (lessers ss) ≡ e = length-map ss (λ (x : Slot). child_at x.lesser) ∙ full in
+    let long : length fields ≡ pointer L * e = rw many at (length-lessers L f (lessers ss)) in
     rw (
       e₅,
       e₄,
@@ -152,11 +126,12 @@ inner-closed L s p h w n v ks vs is cs g hi hc eh ew en ev e₁ e₂ e₃ e₄ e
       eh,
       ew,
       en,
+      full,
       zeros,
-      ← slot-lessers L ks vs f e is cs hi hc,
-      slot-words (λ (x : KeyValue). x.key) ks vs ks (λ i. refl) e is cs hi hc,
-      slot-words (λ (x : KeyValue). x.value) ks vs vs (λ i. refl) e is cs hi hc,
+      ← slot-lessers ks vs ss,
+      slot-words (λ (x : KeyValue). x.key) ks vs ks (λ i. refl) e ss,
+      slot-words (λ (x : KeyValue). x.value) ks vs vs (λ i. refl) e ss,
     )
-    (sym (put_then s p (head_size L) (head L 1 es) _ (length-head L 1 es) ∙ put_then _ f (pointer L * e) fields _ (length-lessers L f e cs hc)
+    (sym (put_then s p (head_size L) (head L 1 es) _ (length-head L 1 es) ∙ put_then _ f (pointer L * e) fields _ long
     ∙ put_then _ (f + pointer L * e) (pointer L) last _ (length-offset L _ g)
     ∙ ap (λ (l : List ℕ). put (put (put l f fields) (f + pointer L * e) last) (f + pointer L * e + pointer L) unused) (head-put L s p 1 es refl)))

@@ -1,25 +1,30 @@
 -- Bytes that calls write one after the other: zeros, words, and two columns of words at once. Assumes nothing.
 use mathlib.Core.Path.{◌≡◌, refl, sym, ap, ◌∙◌}
-use mathlib.Core.List.{List, [], ◌∷◌, ◌++◌, append_assoc, append-nil}
+use mathlib.Core.List.{List, [], ◌∷◌, ◌++◌, append_assoc}
 use Prim.Native.Nat.{ℕ, zero, suc, ◌+◌, ◌-◌, ◌*◌, ◌<◌, ◌≤◌}
 use native.Mathlib.Nat.{add-zero, sub-zero}
 use native.Mathlib.Omega.{arith}
-use lib.ListN.{length, get_or, set, replicate, take, drop, length-drop, length-replicate}
+use lib.ListN.{length, get_or, set, replicate, take, drop, length-map, length-replicate, length-take, length-drop}
 use lib.Seq.{drop-cons, set_comm}
+use borrow.Rule.Slice.PartMut.{put_mid}
+use Rattle.std.proofs.lemmas.Slice.{put_mid-paste}
+use Rattle.std.proofs.lemmas.List.Edits.{paste_all, sets-eq}
 use Rattle.format.specs.Bytes.{le_bytes, put}
 use Rattle.format.proofs.Laws.Numbers.Bytes.{put-append, length-le_bytes}
 use Rattle.format.proofs.Laws.Build.NodeBytes.{length-column}
+use Rattle.nodes.specs.declared.inline_vec.Slot.{Slot}
 use Rattle.nodes.specs.Nodes.{words, picked, Within}
 
--- A zero is written: what is left to write is what was left.
-pub zeros-step : (l : List ℕ) (i to : ℕ) {r : List ℕ} → i < to → put l i (replicate (to - i) 0) ≡ r → put (set l i 0) (i + 1) (replicate (to - (i + 1)) 0) ≡ r
-zeros-step l i to h g =
-    let e : to - i ≡ suc (to - suc i) = omega arith in
-    let f : i + 1 ≡ suc i = omega arith in
-    rw f (rw e at g)
-
-pub zeros-done : (l : List ℕ) (i to : ℕ) {r : List ℕ} → to ≤ i → put l i (replicate (to - i) 0) ≡ r → l ≡ r
-zeros-done l i to h g = let e : to - i ≡ 0 = omega arith in rw e at g
+-- A part of the output is filled with zeros.
+pub zeros_filled : (s ys : List ℕ) (from to : ℕ) → from ≤ to → to ≤ length s → ys ≡ replicate (length (take (to - from) (drop from s))) 0
+    → put_mid from (to - from) s ys ≡ put s from (replicate (to - from) 0)
+zeros_filled s ys from to h l e =
+    let k = to - from in
+    let bs : List ℕ = replicate k 0 in
+    let many : length bs ≡ k = length-replicate k 0 in
+    let all : length (take k (drop from s)) ≡ k = simp (length-take, length-drop) (omega arith) in
+    put_mid-paste from k s ys bs k (rw all at e) refl (sym many) ∙ paste_all s from bs k (sym many)
+    ∙ sym (sets-eq bs s from (omega (arith, many)) ∙ rw many (append_assoc (take from s) bs (drop (from + k) s)))
 
 -- Bytes, and more behind them.
 pub put_then : (s : List ℕ) (p n : ℕ) (a b : List ℕ) → length a ≡ n → put s p (a ++ b) ≡ put (put s p a) (p + n) b
@@ -53,19 +58,13 @@ zero-words (suc n) =
     let e : 8 * suc n ≡ suc (suc (suc (suc (suc (suc (suc (suc (8 * n)))))))) = omega arith in
     rw e (ap (λ (l : List ℕ). le_bytes 8 0 ++ l) (zero-words n))
 
-words_take : (k e : ℕ) (l : List ℕ) → k ≤ length l → k ≤ e → words e (take k l) ≡ words k l ++ replicate (8 * (e - k)) 0
-words_take zero e l h f = rw sub-zero (zero-words e)
-words_take (suc k) e [] h f = absurd (omega arith)
-words_take (suc k) zero (x ∷ l) h f = absurd (omega arith)
-words_take (suc k) (suc e) (x ∷ l) h f =
-    let a : suc e - suc k ≡ e - k = omega arith in
-    rw (a, append_assoc (le_bytes 8 x) (words k l) (replicate (8 * (e - k)) 0))
-    (ap (λ (r : List ℕ). le_bytes 8 x ++ r) (words_take k e l (omega arith) (omega arith)))
-
-words-all : (k : ℕ) (l : List ℕ) → k ≤ length l → words k (take k l) ≡ words k l
-words-all k l h =
-    let e : 8 * (k - k) ≡ 0 = omega arith in
-    words_take k k l h (omega arith) ∙ ap (λ (n : ℕ). words k l ++ replicate n 0) e ∙ append-nil (words k l)
+pub words_more : (l : List ℕ) (e : ℕ) → length l ≤ e → words e l ≡ words (length l) l ++ replicate (8 * (e - length l)) 0
+words_more [] e h = rw sub-zero (zero-words e)
+words_more (x ∷ l) zero h = absurd (omega arith)
+words_more (x ∷ l) (suc e) h =
+    let a : suc e - suc (length l) ≡ e - length l = omega arith in
+    rw (a, append_assoc (le_bytes 8 x) (words (length l) l) (replicate (8 * (e - length l)) 0))
+    (ap (λ (r : List ℕ). le_bytes 8 x ++ r) (words_more l e (omega arith)))
 
 length-words : (n : ℕ) (l : List ℕ) → length (words n l) ≡ 8 * n
 length-words n l = length-column (λ (x : ℕ). x) n l
@@ -96,43 +95,47 @@ rest-step at e k ks vs out j x y h f hk hv ex ey e₁ e₂ g =
     (length-le_bytes 8 _) (length-le_bytes 8 _) room
     ∙ rw (b, drop-cons ks j 0 (omega arith), drop-cons vs j 0 (omega arith)) at g)
 
-pub left-of : (i k : ℕ) (l : List ℕ) → i + k ≤ length l → k ≤ length (drop i l)
-left-of i k l h = simp length-drop (omega arith)
+-- Two columns of e places have the words of two lists, then zeros.
+abbrev Filled : (s : List ℕ) (at e : ℕ) (ks vs out : List ℕ) → Type 0
+Filled s at e ks vs out = out ≡ put (put s at (words e ks)) (at + 8 * e) (words e vs)
 
--- Two columns of e places have k words of two lists from the i-th on, then zeros.
-abbrev Filled : (s : List ℕ) (at e i k : ℕ) (ks vs out : List ℕ) → Type 0
-Filled s at e i k ks vs out = out ≡ put (put s at (words e (take k (drop i ks)))) (at + 8 * e) (words e (take k (drop i vs)))
-
-pub columns-filled : (s : List ℕ) (at e i k : ℕ) (ks vs : List ℕ) {o₁ o₂ o₃ : List ℕ} → k ≤ e → i + k ≤ length ks → i + k ≤ length vs
-    → o₁ ≡ put (put s at (words k (drop i ks))) (at + 8 * e) (words k (drop i vs))
-    → o₂ ≡ put o₁ (at + 8 * k) (replicate (at + 8 * e - (at + 8 * k)) 0)
-    → o₃ ≡ put o₂ (at + 8 * e + 8 * k) (replicate (at + 16 * e - (at + 8 * e + 8 * k)) 0) → Filled s at e i k ks vs o₃
-columns-filled s at e i k ks vs h hk hv e₁ e₂ e₃ =
+pub columns-filled : (s : List ℕ) (at e : ℕ) (ks vs : List ℕ) {o₁ o₂ o₃ : List ℕ} → length ks ≡ length vs → length ks ≤ e
+    → o₁ ≡ put (put s at (words (length ks) ks)) (at + 8 * e) (words (length vs) vs)
+    → o₂ ≡ put o₁ (at + 8 * length ks) (replicate (at + 8 * e - (at + 8 * length ks)) 0)
+    → o₃ ≡ put o₂ (at + 8 * e + 8 * length ks) (replicate (at + 16 * e - (at + 8 * e + 8 * length ks)) 0) → Filled s at e ks vs o₃
+columns-filled s at e ks vs same h e₁ e₂ e₃ =
+    let k = length ks in
     let a : at + 8 * e - (at + 8 * k) ≡ 8 * (e - k) = omega arith in
     let b : at + 16 * e - (at + 8 * e + 8 * k) ≡ 8 * (e - k) = omega arith in
     let room : at + 8 * k + length {A = ℕ} (replicate (8 * (e - k)) 0) ≤ at + 8 * e = rw length-replicate (omega arith) in
-    rw (e₃, e₂, e₁, a, b, words_take k e (drop i ks) (left-of i k ks hk) h, words_take k e (drop i vs) (left-of i k vs hv) h)
-    (both-then s at (8 * k) (words k (drop i ks)) _ (at + 8 * e) (8 * k) (words k (drop i vs)) _ (length-words k _) (length-words k _) room)
+    let all : words e vs ≡ words k vs ++ replicate (8 * (e - k)) 0 = rw same (words_more vs e (omega arith)) in
+    rw (e₃, e₂, e₁, a, b, words_more ks e h, all, ← same)
+    (both-then s at (8 * k) (words k ks) _ (at + 8 * e) (8 * k) (words k vs) _ (length-words k _) (length-words k _) room)
 
-pub columns-full : (s : List ℕ) (at e i k : ℕ) (ks vs : List ℕ) {o : List ℕ} → k ≤ e → e ≤ k → i + k ≤ length ks → i + k ≤ length vs
-    → o ≡ put (put s at (words k (drop i ks))) (at + 8 * e) (words k (drop i vs)) → Filled s at e i k ks vs o
-columns-full s at e i k ks vs h g hk hv eo =
-    let same : e ≡ k = omega arith in
-    rw (eo, same, words-all k (drop i ks) (left-of i k ks hk), words-all k (drop i vs) (left-of i k vs hv))
+pub columns-full : (s : List ℕ) (at e : ℕ) (ks vs : List ℕ) {o : List ℕ} → length ks ≡ length vs → length ks ≤ e → e ≤ length ks
+    → o ≡ put (put s at (words (length ks) ks)) (at + 8 * e) (words (length vs) vs) → Filled s at e ks vs o
+columns-full s at e ks vs same h g eo =
+    let full : e ≡ length ks = omega arith in
+    rw (eo, full, same)
 
--- ---- words at given places
+-- ---- words at the places of slots
 
-pub length-picked : (l is : List ℕ) → length (picked l is) ≡ length is
-length-picked l [] = refl
-length-picked l (i ∷ is) = ap suc (length-picked l is)
+pub within-get : {m n : ℕ} → m ≡ n → (ss : List Slot) (j : ℕ) (d : Slot) → Within m ss → j < length ss → (get_or ss j d).place < n
+within-get e [] j d w l = absurd (omega arith)
+within-get e (s ∷ ss) zero d w l = omega (arith, w.0)
+within-get e (s ∷ ss) (suc j) d w l = within-get e ss j d w.1 (omega arith)
 
-pub picked-get : (l is : List ℕ) (j : ℕ) → j < length is → get_or l (get_or is j 0) 0 ≡ get_or (picked l is) j 0
-picked-get l [] j h = absurd (omega arith)
-picked-get l (i ∷ is) zero h = refl
-picked-get l (i ∷ is) (suc j) h = picked-get l is j (omega arith)
+picked-get : (l : List ℕ) (ss : List Slot) (j : ℕ) (d : Slot) → j < length ss → get_or l (get_or ss j d).place 0 ≡ get_or (picked l ss) j 0
+picked-get l [] j d h = absurd (omega arith)
+picked-get l (s ∷ ss) zero d h = refl
+picked-get l (s ∷ ss) (suc j) d h = picked-get l ss j d (omega arith)
 
-pub within-get : (m n : ℕ) (is : List ℕ) (j : ℕ) → Within m n is → n ≤ length is → j < n → get_or is j 0 < m
-within-get m zero is j w l h = absurd (omega arith)
-within-get m (suc n) [] j w l h = absurd (omega arith)
-within-get m (suc n) (i ∷ is) zero w l h = w.0
-within-get m (suc n) (i ∷ is) (suc j) w l h = within-get m n is j w.1 (omega arith) (omega arith)
+-- The same as `rest-step`, for the words at the places of slots.
+pub slots-step : (at : ℕ) (ks vs : List ℕ) (ss : List Slot) (out : List ℕ) (j : ℕ) (d : Slot) {o₁ o₂ r : List ℕ} → let e = length ss in j < e
+    → o₁ ≡ put out (at + 8 * j) (le_bytes 8 (get_or ks (get_or ss j d).place 0))
+    → o₂ ≡ put o₁ (at + 8 * e + 8 * j) (le_bytes 8 (get_or vs (get_or ss j d).place 0))
+    → rest at e e (picked ks ss) (picked vs ss) out j ≡ r → rest at e e (picked ks ss) (picked vs ss) o₂ (j + 1) ≡ r
+slots-step at ks vs ss out j d h e₁ e₂ g =
+    let long : (l : List ℕ) → length ss ≤ length (picked l ss) = λ l. rw length-map (omega arith) in
+    rest-step at (length ss) (length ss) (picked ks ss) (picked vs ss) out j _ _ h (omega arith) (long ks) (long vs)
+    (picked-get ks ss j d h) (picked-get vs ss j d h) e₁ e₂ g

@@ -1,21 +1,23 @@
 -- The children of an inner node, written one after the other with the entries between them. Assumes nothing.
+use Prim.Native.Nat.{ℕ, zero, suc, ◌+◌, ◌*◌, ◌≤◌, ◌<◌, min}
 use Rattle.std.specs.Prelude.{Option}
-use Prim.Native.Nat.{ℕ, zero, suc, ◌+◌, ◌≤◌, ◌<◌}
+use Rattle.format.specs.declared.Position.{Position}
 use mathlib.Core.Path.{◌≡◌, refl, sym, ap, ◌∙◌}
 use mathlib.Core.List.{List, [], ◌∷◌, ◌++◌, append_assoc}
 use native.Mathlib.Omega.{arith}
 use native.Mathlib.Nat.{suc-ne-zero, suc_inj}
 use lib.ListN.{length, get_or, drop}
 use Rattle.format.specs.Layout.{Layout}
-use Rattle.format.specs.declared.Position.{Position}
 use Rattle.format.specs.Bytes.{put}
 use Rattle.format.specs.Tree.{Slot, slot_of, Branch, length_branches, length_branch, child_of, slots_of, greater_of, write_branches, write_branch, KeyValue}
-use Rattle.format.specs.Build.{Filled, FilledBranches, fill_next, fill_branches, pairs}
+use Rattle.format.specs.Build.{Filled, FilledBranches, fill_next, fill_branches, fill, pairs}
+use Rattle.format.specs.Weight.{upper, room}
 use Rattle.format.proofs.Laws.Numbers.Bytes.{put-append}
 use Rattle.format.proofs.Laws.Build.NodeBytes.{length-write_branch}
+use Rattle.nodes.specs.declared.inline_vec.ChildPos.{ChildPos}
 use Rattle.nodes.specs.Nodes.{child_at}
 use Rattle.serialize.specs.declared.map.Place.{Place}
-use Rattle.serialize.specs.Wrote.{from, Wrote}
+use Rattle.serialize.specs.Wrote.{most, from, Wrote}
 
 -- An entry of the given lists.
 entry_next : (i : ℕ) (a b : List ℕ) → i < length a → length a ≡ length b
@@ -24,6 +26,11 @@ entry_next i [] b h e = absurd (omega arith)
 entry_next i (x ∷ a) [] h e = absurd (suc-ne-zero (length a) e)
 entry_next zero (x ∷ a) (y ∷ b) h e = refl
 entry_next (suc i) (x ∷ a) (y ∷ b) h e = entry_next i a b (omega arith) (suc_inj e)
+
+-- Enough entries are left for k entries of an inner node and k + 1 children with h levels above the last one, and an output of n bytes has room.
+pub record ReadyAll (L : Layout) (ks vs : List ℕ) (h k : ℕ) (p : Place) (n : ℕ) : Type 0 where
+  pub enough : p.next + (suc k * upper L h + k + min p.last (suc k * room L h)) ≤ length ks
+  pub fits : p.at.0 + length_branches L (fill_branches (fill L h) k p.last (from ks vs p.next)).branches ≤ min n most
 
 -- What there is when the last child is closed.
 pub record Ends : Type 0 where
@@ -82,12 +89,12 @@ module _ (L : Layout) where
         ∙ ap (λ (x : ℕ). ends n out' (ss ++ (slot_of e k ∷ [])) q x es) (sym em)
 
     -- The child at p is written, and the entry after it goes to the node.
-    pub ends_more : (ks vs : List ℕ) (n : ℕ) (p r : Place) (out out' : List ℕ) (ss : List Slot) → length ks ≡ length vs → r.next < length ks
-        → Wrote L ks vs (give p.last (from ks vs p.next)) p out r out'
+    pub ends_more : (ks vs : List ℕ) (n : ℕ) (p r : Place) (k : Option ChildPos) (out out' : List ℕ) (ss : List Slot) → length ks ≡ length vs → r.next < length ks
+        → Wrote L ks vs (give p.last (from ks vs p.next)) p out k r out'
         → ends (suc n) out ss p.at.0 p.last (from ks vs p.next)
-        ≡ ends n out' (ss ++ (slot_of (record { key = get_or ks r.next 0; value = get_or vs r.next 0 }) (child_at r.child.0) ∷ []))
+        ≡ ends n out' (ss ++ (slot_of (record { key = get_or ks r.next 0; value = get_or vs r.next 0 }) (child_at k) ∷ []))
         r.at.0 r.last (from ks vs (suc r.next))
-    ends_more ks vs n p r out out' ss el h W =
+    ends_more ks vs n p r k out out' ss el h W =
         let c = give p.last (from ks vs p.next) in
         ap (λ (l : List KeyValue). ends_by (fill_next (fill_branches give n) c l) out ss p.at.0) (sym W.rest ∙ entry_next r.next ks vs h el)
         ∙ ends_next n c _ _ out out' ss _ _ _ _ W.bytes W.child W.at W.last

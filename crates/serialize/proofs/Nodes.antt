@@ -1,59 +1,101 @@
 -- The nodes of a subtree: a leaf, none, or an inner node behind its children. Assumes nothing.
-use Rattle.std.specs.Prelude.{Option, Some}
 use Prim.Native.Nat.{ℕ, zero, suc, ◌+◌, ◌-◌, ◌*◌, ◌≤◌, ◌<◌, min}
-use mathlib.Core.Path.{◌≡◌, refl, sym, ap, ◌∙◌, subst}
-use mathlib.Core.List.{List}
-use native.Mathlib.Omega.{arith}
-use lib.ListN.{length, take}
-use lib.Seq.{drop-drop, length-sets}
-use Rattle.format.specs.Layout.{Layout, leaf_size, inner_size}
+use Rattle.std.specs.Prelude.{Option, None, Some}
 use Rattle.format.specs.declared.Position.{Position}
+use mathlib.Core.Path.{◌≡◌, refl, sym, ap, ◌∙◌, subst}
+use mathlib.Core.List.{List, [], ◌∷◌}
+use native.Mathlib.Omega.{arith}
+use lib.ListN.{length, take, drop}
+use lib.Seq.{drop-drop, length-sets}
+use Rattle.std.specs.List.{between}
+use Rattle.format.specs.Layout.{Layout, leaf_size, inner_size}
 use Rattle.format.specs.Bytes.{put}
-use Rattle.format.specs.Tree.{Slot, leaf_bytes, inner_bytes, length_branches, length_branch, slots_of, greater_of, write_branches, KeyValue}
+use Rattle.format.specs.Tree as tree
+use Rattle.format.specs.Tree.{leaf_bytes, inner_bytes, length_branches, length_branch, slots_of, greater_of, write_branches, write_branch, KeyValue}
 use Rattle.format.specs.Build.{Filled, FilledBranches, closed, fill_branches, fill_leaf, fill, pairs}
 use Rattle.format.proofs.Laws.Numbers.Bytes.{put-append}
 use Rattle.format.specs.Weight.{upper, room}
 use Rattle.format.proofs.Laws.Build.NodeBytes.{length-write_branches}
-use Rattle.nodes.specs.Nodes.{child_at, slots_in}
+use Rattle.nodes.specs.declared.inline_vec.ChildPos.{ChildPos}
+use Rattle.nodes.specs.declared.inline_vec.Slot.{Slot}
+use Rattle.nodes.specs.Nodes.{child_at, slots_in, Within}
 use Rattle.serialize.specs.declared.map.Place.{Place}
-use Rattle.serialize.specs.declared.map.FullInner.{FullInner}
-use Rattle.serialize.specs.Wrote.{most, from, Ready, ReadyAll, Wrote, Grew}
-
--- Where the builder is after a node of n bytes at p.
-abbrev pub after : ℕ → ℕ → ℕ → ℕ → Place
-after p n next last = record { child = record { 0 = p + 1 }; next = next; last = last; at = record { 0 = p + n } }
-
-closed-child : (p : ℕ) → child_at (p + 1) ≡ Some (record { 0 = p })
-closed-child p = let e : p + 1 ≡ suc p = omega arith in rw e
+use Rattle.serialize.specs.Wrote.{most, from, child_there, after, Ready, Wrote}
+use Rattle.serialize.proofs.Children.{ReadyAll}
 
 pub not_none : (m : ℕ) → (m ≡ 0 → ⊥) → 0 < m
 not_none zero h = absurd (h refl)
 not_none (suc m) h = omega arith
 
+drop-pairs : (i : ℕ) (a b : List ℕ) → drop i (pairs a b) ≡ pairs (drop i a) (drop i b)
+drop-pairs zero a b = refl
+drop-pairs (suc i) [] b = refl
+drop-pairs (suc i) (x ∷ a) [] = none (drop i a)
+  where
+    none : (l : List ℕ) → [] ≡ pairs l []
+    none [] = refl
+    none (x ∷ l) = refl
+drop-pairs (suc i) (x ∷ a) (y ∷ b) = drop-pairs i a b
+
+take-pairs : (k : ℕ) (a b : List ℕ) → take k (pairs a b) ≡ pairs (take k a) (take k b)
+take-pairs zero a b = refl
+take-pairs (suc k) [] b = refl
+take-pairs (suc k) (x ∷ a) [] = refl
+take-pairs (suc k) (x ∷ a) (y ∷ b) = ap (λ (l : List KeyValue). record { key = x; value = y } ∷ l) (take-pairs k a b)
+
+-- The children of an inner node stand from the place p on to the place r, the last at c, and its slots have the entries between them.
+pub record Grew (L : Layout) (ks vs : List ℕ) (F : FilledBranches) (p : Place) (out : List ℕ) (ss : List Slot) (c : Option ChildPos) (r : Place) (out' : List ℕ) : Type 0 where
+  pub bytes : out' ≡ put out p.at.0 (write_branches L F.branches p.at.0)
+  pub slots : slots_in ks vs ss ≡ slots_of L F.branches p.at.0
+  pub within : Within (length ks) ss
+  pub greater : child_at c ≡ greater_of L F.branches p.at.0
+  pub at : r.at.0 ≡ p.at.0 + length_branches L F.branches
+  pub rest : from ks vs r.next ≡ F.rest
+  pub next : r.next ≤ length ks
+  pub last : r.last ≡ F.last
+
 module _ (L : Layout) (ks vs : List ℕ) where
   -- ---- a leaf
 
   pub leaf-wrote : (p : Place) (out out' : List ℕ) (k m n : ℕ) → p.next + k ≤ length ks
-      → out' ≡ put out p.at.0 (leaf_bytes L (take k (from ks vs p.next))) → n ≡ leaf_size L
-      → Wrote L ks vs (fill_leaf L k m (from ks vs p.next)) p out (after p.at.0 n (p.next + k) m) out'
+      → out' ≡ put out p.at.0 (leaf_bytes L (pairs (between p.next (p.next + k) ks) (between p.next (p.next + k) vs))) → n ≡ leaf_size L
+      → Wrote L ks vs (fill_leaf L k m (from ks vs p.next)) p out (child_there p.at.0)
+      (record { next = p.next + k; last = m; at = record { 0 = p.at.0 + n } }) out'
   leaf-wrote p out out' k m n h e en =
+      let f : p.next + k - p.next ≡ k = omega arith in
       record {
-        bytes = e;
-        child = closed-child p.at.0;
+        bytes =
+            rw f at e
+            ∙ ap (λ (es : List KeyValue). put out p.at.0 (leaf_bytes L es))
+            (sym (ap (take k) (drop-pairs p.next ks vs) ∙ take-pairs k (drop p.next ks) (drop p.next vs)));
+        child = refl;
         at = ap (λ (x : ℕ). p.at.0 + x) en;
         rest = sym (drop-drop k p.next (pairs ks vs));
         next = h;
         last = refl;
       }
 
-  some-fill : (m : ℕ) (es : List KeyValue) → (m ≡ 0 → ⊥) → fill L 0 m es ≡ fill_leaf L (min m L.entries) (m - min m L.entries) es
+  -- A leaf of the last level, if that takes an entry, and one a level higher, if it takes none.
+  pub last-fill : {h k m : ℕ} (es : List KeyValue) → h ≡ 0 → (m ≡ 0 → ⊥) → k ≡ min m L.entries → fill L h m es ≡ fill_leaf L k (m - k) es
   unfolding fill
-  some-fill zero es h = absurd (h refl)
-  some-fill (suc m) es h = refl
+  last-fill {m = zero} es z f e = absurd (f refl)
+  last-fill {m = suc m} es z f e = rw (z, e)
 
-  one-fill : (m : ℕ) (es : List KeyValue) → m ≡ 0 → fill L 1 m es ≡ fill_leaf L L.entries 0 es
+  pub one-fill : {h k m : ℕ} (es : List KeyValue) → h ≡ 1 → m ≡ 0 → k ≡ L.entries → fill L h m es ≡ fill_leaf L k (m - k) es
   unfolding fill
-  one-fill m es e = rw e
+  one-fill es h z e = rw (h, z, e) (let n : 0 - L.entries ≡ 0 = omega arith in rw n)
+
+  pub leaf-fits : (h k m : ℕ) {n : ℕ} {p : Place} → fill L h p.last (from ks vs p.next) ≡ fill_leaf L k m (from ks vs p.next) → Ready L ks vs h p n
+      → p.at.0 + leaf_size L ≤ min n most
+  leaf-fits h k m {n} {p} e R = subst (λ (F : Filled). p.at.0 + length_branch L F.branch ≤ min n most) e R.fits
+
+  -- What is told of a leaf from the place with the entries that the last level takes after it.
+  pub leaf-filled : (h k : ℕ) {l : ℕ} {p r : Place} {c : Option ChildPos} {out out' : List ℕ} → l ≡ p.last - k
+      → fill L h p.last (from ks vs p.next) ≡ fill_leaf L k (p.last - k) (from ks vs p.next)
+      → Wrote L ks vs (fill_leaf L k l (from ks vs p.next)) (record { next = p.next; last = l; at = p.at }) out c r out'
+      → Wrote L ks vs (fill L h p.last (from ks vs p.next)) p out c r out'
+  leaf-filled h k el e W =
+      rw e (record { bytes = W.bytes; child = W.child; at = W.at; rest = W.rest; next = W.next; last = W.last ∙ el })
 
   -- ---- an inner node
 
@@ -79,37 +121,32 @@ module _ (L : Layout) (ks vs : List ℕ) where
       levels zero l k = absurd (omega arith)
       levels (suc h) l k = let e : suc h - 1 ≡ h = omega arith in rw e k
 
-  pub ready-leaves : {h k n : ℕ} {p : Place} → h ≡ 1 → ReadyAll L ks vs (h - 1) k p n → ReadyAll L ks vs 0 k p n
-  ready-leaves {k = k} {n = n} {p = p} e R = subst (λ (x : ℕ). ReadyAll L ks vs (x - 1) k p n) e R
+  pub wrote-long : {F : Filled} {p r : Place} {c : Option ChildPos} {out out' : List ℕ} → Wrote L ks vs F p out c r out' → length out' ≡ length out
+  wrote-long {F} {p} {r} {c} {out} W = ap length W.bytes ∙ length-sets out p.at.0 (write_branch L F.branch p.at.0)
 
-  pub grew-as : {R R' : FilledBranches} {p : Place} {out o o' : List ℕ} {q q' : FullInner} → Grew L ks vs R p out q o → R ≡ R' → q' ≡ q → o' ≡ o
-      → Grew L ks vs R' p out q' o'
-  grew-as G e f g = rw (← e, f, g) G
-
-  pub grew-long : {R : FilledBranches} {p : Place} {out out' : List ℕ} {q : FullInner} → Grew L ks vs R p out q out' → length out' ≡ length out
-  grew-long {R} {p} {out} G = ap length G.bytes ∙ length-sets out p.at.0 (write_branches L R.branches p.at.0)
+  pub grew-long : {R : FilledBranches} {p r : Place} {c : Option ChildPos} {ss : List Slot} {out out' : List ℕ} → Grew L ks vs R p out ss c r out' → length out' ≡ length out
+  grew-long {R} {p} {r} {c} {ss} {out} G = ap length G.bytes ∙ length-sets out p.at.0 (write_branches L R.branches p.at.0)
 
   -- It is closed behind its children.
-  pub grew-closed : (R : FilledBranches) (p : Place) (q : FullInner) (out₀ out out' : List ℕ) (n : ℕ) → Grew L ks vs R p out₀ q out
-      → out' ≡ put out q.here.at.0
-      (inner_bytes L q.here.at.0 (slots_in L.entries ks vs q.node.places q.node.lessers) (child_at q.here.child.0))
-      → n ≡ inner_size L → Wrote L ks vs (closed R) p out₀ (after q.here.at.0 n q.here.next q.here.last) out'
-  grew-closed R p q out₀ out out' n G e en =
+  pub grew-closed : (R : FilledBranches) (p r : Place) (c : Option ChildPos) (ss : List Slot) (out₀ out out' : List ℕ) (n : ℕ) → Grew L ks vs R p out₀ ss c r out
+      → out' ≡ put out r.at.0 (inner_bytes L r.at.0 (slots_in ks vs ss) (child_at c)) → n ≡ inner_size L
+      → Wrote L ks vs (closed R) p out₀ (child_there r.at.0) (after r n) out'
+  grew-closed R p r c ss out₀ out out' n G e en =
       let bs = R.branches in
       let t = p.at.0 + length_branches L bs in
       let own = inner_bytes L t (slots_of L bs p.at.0) (greater_of L bs p.at.0) in
       let below = write_branches L bs p.at.0 in
-      let g = child_at q.here.child.0 in
+      let g = child_at c in
       record {
         bytes =
             e
-            ∙ ap (λ (n : ℕ). put out n (inner_bytes L n (slots_in L.entries ks vs q.node.places q.node.lessers) g)) G.at
-            ∙ ap (λ (x : List Slot). put out t (inner_bytes L t x g)) G.slots
+            ∙ ap (λ (n : ℕ). put out n (inner_bytes L n (slots_in ks vs ss) g)) G.at
+            ∙ ap (λ (x : List tree.Slot). put out t (inner_bytes L t x g)) G.slots
             ∙ ap (λ (x : Option Position). put out t (inner_bytes L t (slots_of L bs p.at.0) x)) G.greater
             ∙ ap (λ (o : List ℕ). put o t own) G.bytes
             ∙ ap (λ (n : ℕ). put (put out₀ p.at.0 below) (p.at.0 + n) own) (sym (length-write_branches L bs p.at.0))
             ∙ sym (put-append out₀ p.at.0 below own);
-        child = closed-child q.here.at.0 ∙ ap (λ (n : ℕ). Some (record { 0 = n })) G.at;
+        child = ap (λ (n : ℕ). Some (record { 0 = n })) G.at;
         at = omega (arith, G.at, en);
         rest = G.rest;
         next = G.next;
@@ -119,46 +156,18 @@ module _ (L : Layout) (ks vs : List ℕ) where
   -- ---- what the functions leave
 
   -- What stands there is what was filled.
-  as-filled : {F H : Filled} {p r : Place} {out out' : List ℕ} → F ≡ H → Wrote L ks vs F p out r out' → Wrote L ks vs H p out r out'
-  as-filled {p = p} {r = r} {out = out} {out' = out'} e W = subst (λ (F : Filled). Wrote L ks vs F p out r out') e W
+  as-filled : {F H : Filled} {p r : Place} {c : Option ChildPos} {out out' : List ℕ} → F ≡ H → Wrote L ks vs F p out c r out' → Wrote L ks vs H p out c r out'
+  as-filled {p = p} {r = r} {c = c} {out = out} {out' = out'} e W = subst (λ (F : Filled). Wrote L ks vs F p out c r out') e W
 
-  pub inner-wrote : {h : ℕ} {p r : Place} {out out' : List ℕ} → 0 < h → (h ≡ 1 → 0 < p.last)
-      → Wrote L ks vs (closed (fill_branches (fill L (h - 1)) L.entries p.last (from ks vs p.next))) p out r out'
-      → Wrote L ks vs (fill L h p.last (from ks vs p.next)) p out r out'
+  pub inner-wrote : {h : ℕ} {p r : Place} {c : Option ChildPos} {out out' : List ℕ} → 0 < h → (h ≡ 1 → 0 < p.last)
+      → Wrote L ks vs (closed (fill_branches (fill L (h - 1)) L.entries p.last (from ks vs p.next))) p out c r out'
+      → Wrote L ks vs (fill L h p.last (from ks vs p.next)) p out c r out'
   inner-wrote {h} {p} l top W = as-filled (sym (inner-fill h p.last (from ks vs p.next) l top)) W
 
-  -- With no level above the last one.
-  pub as-level : {h n : ℕ} {p : Place} → h ≡ 0 → Ready L ks vs h p n → Ready L ks vs 0 p n
-  as-level {n = n} {p = p} e R = subst (λ (x : ℕ). Ready L ks vs x p n) e R
-
-  -- A leaf of the last level can be written.
-  pub last-ready : {n : ℕ} {p : Place} → (p.last ≡ 0 → ⊥) → Ready L ks vs 0 p n
-      → (p.next + min p.last L.entries ≤ length ks) × (p.at.0 + leaf_size L ≤ min n most)
-  last-ready {n} {p} h R = (
-    omega (arith, R.enough),
-    subst (λ (F : Filled). p.at.0 + length_branch L F.branch ≤ min n most) (some-fill p.last (from ks vs p.next) h) R.fits,
-  )
-
-  pub last-wrote : {p r : Place} {out out' : List ℕ} (k : ℕ) → (p.last ≡ 0 → ⊥) → k ≡ min p.last L.entries
-      → Wrote L ks vs (fill_leaf L k (p.last - k) (from ks vs p.next)) p out r out' → Wrote L ks vs (fill L 0 p.last (from ks vs p.next)) p out r out'
-  last-wrote {p} k h e W =
-      as-filled (ap (λ (x : ℕ). fill_leaf L x (p.last - x) (from ks vs p.next)) e ∙ sym (some-fill p.last (from ks vs p.next) h)) W
-
-  -- A full leaf one level higher.
-  pub one-ready : {h n : ℕ} {p : Place} → h ≡ 1 → p.last ≡ 0 → Ready L ks vs h p n
-      → (p.next + L.entries ≤ length ks) × (p.at.0 + leaf_size L ≤ min n most)
-  one-ready {h} {n} {p} e z R =
-      let S : Ready L ks vs 1 p n = subst (λ (x : ℕ). Ready L ks vs x p n) e R in (
-        omega (arith, S.enough),
-        subst (λ (F : Filled). p.at.0 + length_branch L F.branch ≤ min n most) (one-fill p.last (from ks vs p.next) z) S.fits,
-      )
-
-  pub one-wrote : {h : ℕ} {p r : Place} {out out' : List ℕ} → h ≡ 1 → p.last ≡ 0
-      → Wrote L ks vs (fill_leaf L L.entries 0 (from ks vs p.next)) p out r out' → Wrote L ks vs (fill L h p.last (from ks vs p.next)) p out r out'
-  one-wrote {h} {p} e z W = rw e (as-filled (sym (one-fill p.last (from ks vs p.next) z)) W)
-
   -- The last level takes no entry.
-  pub none-wrote : (p : Place) (out : List ℕ) → p.last ≡ 0 → p.next ≤ length ks
-      → Wrote L ks vs (fill L 0 p.last (from ks vs p.next)) p out (record { child = record { 0 = 0 }; next = p.next; last = 0; at = p.at }) out
+  pub none-wrote : {h n : ℕ} (p : Place) (out : List ℕ) → h ≡ 0 → p.last ≡ 0 → Ready L ks vs h p n
+      → Wrote L ks vs (fill L h p.last (from ks vs p.next)) p out None p out
   unfolding fill
-  none-wrote p out e l = rw e (record { bytes = refl; child = refl; at = omega arith; rest = refl; next = l; last = refl })
+  none-wrote p out z e R =
+      let l : p.next ≤ length ks = omega (arith, R.enough) in
+      rw (z, e) (record { bytes = refl; child = refl; at = omega arith; rest = refl; next = l; last = refl })

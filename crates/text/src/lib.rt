@@ -1,32 +1,64 @@
-// Text that is put together in a lent buffer: bytes and decimal numbers, one behind the other.
+// Text that is put together in a room of its own: bytes and decimal numbers, one behind the other.
 #![tactic(auto)]
 
-ghost use Rattle.std.specs.Prelude.{◌≡◌, ◌++◌, ◌+◌, ◌≤◌, length, take, drop};
+ghost use Rattle.std.specs.Prelude.{◌≡◌, [], ◌++◌, ◌+◌, ◌≤◌, length};
 ghost use Rattle.text.specs.Decimal.{decimal};
 
-// Puts bytes into the text from a place on. The place after them; the bytes from there on stay.
-pub fn put(text: &mut [u8], at: usize, bytes: &[u8]) -> usize
-    requires { at + length bytes.now ≤ length text.old }
-    ensures end { result ≡ at + length bytes.now }
-    ensures text { take result text.new ≡ take at text.old ++ bytes.now }
-    ensures rest { drop result text.new ≡ drop result text.old }
-{
-    let mut i = 0;
-    while i < bytes.len() {
-        text[at + i] = bytes[i];
-        i += 1;
-    }
-    at + i
+use std::marker::Model;
+
+// A text of at most N bytes.
+#[derive(Drop)]
+pub struct Text<const N: usize> {
+    bytes: [u8; N],
+    length: usize,
 }
 
-// Puts the digits of a number into the text from a place on. The place after them; the bytes from there on stay.
-pub fn put_decimal(text: &mut [u8], at: usize, number: u64) -> usize
-    requires { at + 20 ≤ length text.old }
-    ensures end { (at ≤ result) × (result ≤ at + 20) }
-    ensures text { take result text.new ≡ take at text.old ++ decimal number }
-    ensures rest { drop result text.new ≡ drop result text.old }
-{
-    let mut digits = [0u8; 20];
-    let count = io::decimal(number, &mut digits);
-    put(text, at, &digits[..count])
+// Clauses see the bytes of the text.
+impl<const N: usize> Model for Text<N> {
+    ghost use Rattle.std.specs.Prelude.{ℕ, List, ◌≤◌, take};
+
+    ghost Value = { List ℕ };
+
+    ghost view = { λ t. take t.length t.bytes };
+
+    ghost invariant = { λ t. t.length ≤ N };
+}
+
+impl<const N: usize> Text<N> {
+    // Makes an empty text.
+    pub fn new() -> Self
+        ensures { result ≡ [] }
+    {
+        Text {
+            bytes: [0; N],
+            length: 0,
+        }
+    }
+
+    // Puts bytes behind the text.
+    pub fn push(&mut self, bytes: &[u8])
+        requires { length self.old + length bytes.now ≤ N }
+        ensures { self.new ≡ self.old ++ bytes.now }
+    {
+        let end = self.length + bytes.len();
+        let room = &mut self.bytes[..];
+        room[self.length..end].copy_from_slice(bytes);
+        self.length = end;
+    }
+
+    // Puts the digits of a number behind the text.
+    #[tactic(auto, using(crate::proofs::Texts::decimal_is))]
+    pub fn push_decimal(&mut self, number: u64)
+        requires { length self.old + 20 ≤ N }
+        ensures { self.new ≡ self.old ++ decimal number }
+    {
+        self.push(itoa::Buffer::new().format(number).as_bytes());
+    }
+
+    // Lends the bytes of the text.
+    pub fn as_bytes(&self) -> &[u8]
+        ensures { result.now ≡ self.now }
+    {
+        &self.bytes[..self.length]
+    }
 }

@@ -1,12 +1,12 @@
--- The first line, and where the walk is not refused the lines of what it left in two lists of 4,096 places.
-use Rattle.std.proofs.Common.{ℕ, ◌≤◌, List, length, replicate, ap, ◌∙◌, arith}
-use Rattle.std.proofs.lemmas.List.{length-replicate}
+-- The first line, and unless the walk is refused the lines of what it left in two lists of 4,096 places.
+use Rattle.std.proofs.Common.{◌≡◌, ℕ, ◌≤◌, List, length, replicate, ap, ◌∙◌, arith}
+use Rattle.std.proofs.lemmas.List.{length-replicate, length-take}
 use Rattle.format.specs.Layout.{server, counts_as}
-use Rattle.listing.specs.Listing.{title_line}
-use Rattle.text.proofs.Texts.{stays}
-use Rattle.listing.proofs.Listed.{listing-refused, Listed, listed, joined}
+use Rattle.listing.specs.Listing.{title, title_line}
+use Rattle.listing.proofs.Listed.{listing-refused, Listed, listed}
+use Rattle.listing.proofs.Texts.{put-first, room}
 use Rattle.listing.proofs.put_listing.Goals as goal
-use Rattle.listing.proofs.put_listing.Goals.{In-Walked}
+use Rattle.listing.proofs.put_listing.Goals.{After-put_title, In-Walked}
 
 -- 4,096 zeros, as the two lists are lent.
 abbrev zeros : List ℕ
@@ -16,34 +16,40 @@ zeros-long : 4096 ≤ length zeros
 zeros-long = omega (arith, length-replicate {A = ℕ} 4096 0)
 
 -- What the text is after a walk that is not refused.
-listed-after : (c : In-Walked) → Listed c.args.archive.now zeros zeros c.in-Walked.written
+after : (c : In-Walked) → Listed c.args.archive.now zeros zeros c.in-Walked.written
 unfolding server counts_as
-listed-after c = listed _ _ _ _ _ c.in-Walked.ensures.answer c.requires.0 zeros-long zeros-long
+after c = listed _ _ _ _ _ c.in-Walked.ensures.answer (omega arith) zeros-long zeros-long
 
-pub put_entries-requires : goal.put_entries-requires
-put_entries-requires c =
-    let k = listed-after (goal.at.put_entries-requires c).In-Walked in
-    (omega (arith, k.few, c.put_title-end.ensures.end), omega (arith, k.few), omega (arith, k.few))
+few : (c : In-Walked) → c.in-Walked.written ≤ 4096
+few c = (after c).few
 
-pub returns-in-Refused-clause-text : goal.returns-in-Refused-clause-text
+-- The first line.
+first : (c : After-put_title) → c.put_title.new.text ≡ title_line (title c.args.archive.now)
+first c = put-first c.put_title.ensures c.requires.empty ∙ ap title_line c.title_of.ensures
+
+pub slice_bounds-keys-end : goal.slice_bounds-keys-end
+slice_bounds-keys-end c = omega (arith, few (goal.at.slice_bounds-keys-end c).In-Walked)
+
+pub slice_bounds-values-end : goal.slice_bounds-values-end
+slice_bounds-values-end c = omega (arith, few (goal.at.slice_bounds-values-end c).In-Walked)
+
+pub slice_bounds-put_entries-end : goal.slice_bounds-put_entries-end
+slice_bounds-put_entries-end c = omega (arith, few (goal.at.slice_bounds-put_entries-end c).In-Walked, length-take {A = ℕ})
+
+pub slice_bounds-put_entries-end-in-Walked : goal.slice_bounds-put_entries-end-in-Walked
+slice_bounds-put_entries-end-in-Walked c = omega (arith, few (goal.at.slice_bounds-put_entries-end-in-Walked c).In-Walked, length-take {A = ℕ})
+
+pub put_entries-requires-clause-room : goal.put_entries-requires-clause-room
+put_entries-requires-clause-room c =
+    let f = first (goal.at.put_entries-requires-clause-room c).After-put_title in
+    grind (arith, room, length-take, few (goal.at.put_entries-requires-clause-room c).In-Walked)
+
+pub returns-in-Refused : goal.returns-in-Refused
 unfolding server counts_as
-returns-in-Refused-clause-text c =
-    c.put_title-end.ensures.text ∙ ap title_line c.title_of.ensures
-    ∙ listing-refused _ _ _ _ c.in-Refused.ensures.answer
+returns-in-Refused c = first (goal.at.returns-in-Refused c).After-put_title ∙ listing-refused _ _ _ _ c.in-Refused.ensures.answer
 
-pub returns-in-Walked-clause-end : goal.returns-in-Walked-clause-end
-returns-in-Walked-clause-end c =
-    let k = listed-after (goal.at.returns-in-Walked-clause-end c).In-Walked in
-    omega (arith, k.few, c.put_title-end.ensures.end, c.put_entries.ensures.end)
-
-pub returns-in-Walked-clause-text : goal.returns-in-Walked-clause-text
+pub returns-in-Walked : goal.returns-in-Walked
 unfolding server counts_as
-returns-in-Walked-clause-text c =
-    let k = listed-after (goal.at.returns-in-Walked-clause-text c).In-Walked in
-    joined _ _ _ k c.put_entries.ensures.text (c.put_title-end.ensures.text ∙ ap title_line c.title_of.ensures) c.walk.ensures.keys
-    c.walk.ensures.values
-
-pub returns-in-Walked-clause-rest : goal.returns-in-Walked-clause-rest
-returns-in-Walked-clause-rest c =
-    c.put_entries.ensures.rest
-    ∙ stays c.put_title-end.result c.put_entries.result _ _ c.put_entries.ensures.end.0 c.put_title-end.ensures.rest
+returns-in-Walked c =
+    let f = first (goal.at.returns-in-Walked c).After-put_title in
+    (after (goal.at.returns-in-Walked c).In-Walked).lines (rw f at c.put_entries.ensures) c.walk.ensures.keys c.walk.ensures.values

@@ -1,24 +1,10 @@
--- What is put is the whole text of the input.
+-- The text is that of the input, whether it is too long or not.
 use Rattle.std.proofs.Common.{◌∙◌, rules}
-use Rattle.listing.proofs.Texts.{whole, printed-too-long, printed-archive}
+use Rattle.listing.proofs.Texts.{put-first, printed-too-long, printed-archive}
 use Rattle.listing.proofs.put_text.Goals as goal
 
-pub returns-then-input-gt-LONGEST_INPUT-clause-end : goal.returns-then-input-gt-LONGEST_INPUT-clause-end
-returns-then-input-gt-LONGEST_INPUT-clause-end c =
-    let line = c.put_title.ensures in
-    (whole _ _ _ (search rules) (line.text ∙ printed-too-long _ (search rules)) line.rest).0
+pub returns-then-input-gt-LONGEST_INPUT : goal.returns-then-input-gt-LONGEST_INPUT
+returns-then-input-gt-LONGEST_INPUT c = put-first c.put_title.ensures c.requires ∙ printed-too-long _ (search rules)
 
-pub returns-then-input-gt-LONGEST_INPUT-clause-text : goal.returns-then-input-gt-LONGEST_INPUT-clause-text
-returns-then-input-gt-LONGEST_INPUT-clause-text c =
-    let line = c.put_title.ensures in
-    (whole _ _ _ (search rules) (line.text ∙ printed-too-long _ (search rules)) line.rest).1
-
-pub returns-else-input-gt-LONGEST_INPUT-clause-end : goal.returns-else-input-gt-LONGEST_INPUT-clause-end
-returns-else-input-gt-LONGEST_INPUT-clause-end c =
-    let lines = c.put_listing.ensures in
-    (whole _ _ _ (search rules) (lines.text ∙ printed-archive _ (search rules)) lines.rest).0
-
-pub returns-else-input-gt-LONGEST_INPUT-clause-text : goal.returns-else-input-gt-LONGEST_INPUT-clause-text
-returns-else-input-gt-LONGEST_INPUT-clause-text c =
-    let lines = c.put_listing.ensures in
-    (whole _ _ _ (search rules) (lines.text ∙ printed-archive _ (search rules)) lines.rest).1
+pub returns-else-input-gt-LONGEST_INPUT : goal.returns-else-input-gt-LONGEST_INPUT
+returns-else-input-gt-LONGEST_INPUT c = c.put_listing.ensures ∙ printed-archive _ (search rules)

@@ -8,5 +8,5 @@ pub returns : goal.returns
 returns c =
     let a = c.args in
     record-by (layout_of a.layout) a.out.now _ _ a.at.0 a.n c.offset_bits-offset.result c.pointer.result
-    (child_at a.root.0) c.pointer.ensures.0 c.offset_bits-offset.ensures c.put_uint.ensures
+    (child_at a.root) c.pointer.ensures.0 c.offset_bits-offset.ensures c.put_uint.ensures
     c.put_uint-2.ensures

@@ -1,8 +1,6 @@
 -- `nodes::words::put_zeros` meets its contract. Assumes nothing.
-use native.Mathlib.Omega.{arith}
-use lib.ListN.{length-set}
-use Rattle.nodes.proofs.Runs.{zeros-step}
+use Rattle.nodes.proofs.Runs.{zeros_filled}
 use Rattle.nodes.proofs.words.put_zeros.Goals as goal
 
-pub loop-i-preserved : goal.loop-i-preserved
-loop-i-preserved c = (omega arith, omega arith, simp length-set (omega arith), search zeros-step)
+pub returns : goal.returns
+returns c = zeros_filled c.args.out.now _ _ _ c.requires.0 c.requires.1 (c.fill.ensures.after (λ y h. h))
