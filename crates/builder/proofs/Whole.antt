@@ -11,7 +11,8 @@ use Rattle.format.specs.Layout.{Width, two, four, eight, bytes, sign_bits, Layou
 use Rattle.format.specs.declared.Position.{Position}
 use Rattle.format.specs.Bytes.{le_bytes, put}
 use Rattle.format.specs.Refusal.{gives, refuses}
-use Rattle.format.specs.Align.{is_alignment, zeros_to, Step, align_step}
+use Rattle.format.specs.Align.{is_alignment, zeros_to, align_step}
+use Rattle.format.specs.declared.Step.{Step}
 use Rattle.format.specs.Tree.{offset_bytes, Branch, none_b, some_b, length_branch, child_of, write_branch, KeyValue}
 use Rattle.format.specs.Weight.{weight, reach}
 use Rattle.format.specs.Build.{log_from, height, last_level, tree_of, first_align, record_bytes, behind}

@@ -5,7 +5,7 @@ ghost use Rattle.format.specs.Bytes.{put};
 ghost use Rattle.format.specs.Build.{tree_of, record_bytes, behind, pairs, rises, build, build_length, out_after};
 ghost use Rattle.nodes.specs.Nodes.{child_at};
 ghost use Rattle.builder.specs.Size.{Named, Planned};
-ghost use Rattle.builder.specs.Answers.{built_of};
+ghost use Rattle.format.specs.Refusal.{answer_of};
 
 use crate::size::{Plan, plan_of};
 use fields::primitive::put_uint;
@@ -15,13 +15,6 @@ use nodes::node::offset_bits;
 use nodes::words::put_zeros;
 use serialize::given::Given;
 use serialize::map::{Place, serialize_from_ordered_iter};
-
-// What a build answers: the archive's end, or a refusal.
-#[derive(Clone, Copy)]
-pub enum BuildAnswer {
-    Built(usize),
-    Refused(Refusal),
-}
 
 // The most entries of an archive, and the longest header in bytes.
 #[derive(Clone, Copy)]
@@ -96,35 +89,35 @@ pub fn build(
     header: usize,
     keys: &[u64],
     values: &[u64],
-) -> BuildAnswer
-    ensures answer { built_of result
+) -> Result<usize, Refusal>
+    ensures answer { answer_of result
         ≡ build (layout_of layout) keys.now values.now header (length out.old) }
     ensures bytes { out.new
         ≡ out_after (layout_of layout) keys.now values.now header out.old }
 {
     if !layout.in_range() {
-        return BuildAnswer::Refused(Refusal::EntriesOutOfRange);
+        return Err(Refusal::EntriesOutOfRange);
     }
     let n = keys.len();
     if n != values.len() {
-        return BuildAnswer::Refused(Refusal::IteratorLengthMismatch);
+        return Err(Refusal::IteratorLengthMismatch);
     }
     if Most::ENTRIES < n {
-        return BuildAnswer::Refused(Refusal::TooManyEntries);
+        return Err(Refusal::TooManyEntries);
     }
     if !ascending(keys) {
-        return BuildAnswer::Refused(Refusal::GivenKeysNotAscending);
+        return Err(Refusal::GivenKeysNotAscending);
     }
     if Most::HEADER < header {
-        return BuildAnswer::Refused(Refusal::HeaderTooLong);
+        return Err(Refusal::HeaderTooLong);
     }
     let p = plan_of(layout, n, header);
     let end = p.end;
     if out.len() < end {
-        return BuildAnswer::Refused(Refusal::OutputTooShort);
+        return Err(Refusal::OutputTooShort);
     }
     if !p.fits {
-        return BuildAnswer::Refused(Refusal::OffsetOverflow);
+        return Err(Refusal::OffsetOverflow);
     }
     let given = Given {
         layout,
@@ -132,25 +125,25 @@ pub fn build(
         values,
     };
     put_archive(out, given, header, p);
-    BuildAnswer::Built(end)
+    Ok(end)
 }
 
 // How long the output has to be for so many entries behind a header.
-pub fn build_length(layout: Layout, entries: usize, header: usize) -> BuildAnswer
-    ensures { built_of result ≡ build_length (layout_of layout) entries header }
+pub fn build_length(layout: Layout, entries: usize, header: usize) -> Result<usize, Refusal>
+    ensures { answer_of result ≡ build_length (layout_of layout) entries header }
 {
     if !layout.in_range() {
-        return BuildAnswer::Refused(Refusal::EntriesOutOfRange);
+        return Err(Refusal::EntriesOutOfRange);
     }
     if Most::ENTRIES < entries {
-        return BuildAnswer::Refused(Refusal::TooManyEntries);
+        return Err(Refusal::TooManyEntries);
     }
     if Most::HEADER < header {
-        return BuildAnswer::Refused(Refusal::HeaderTooLong);
+        return Err(Refusal::HeaderTooLong);
     }
     let p = plan_of(layout, entries, header);
     if p.fits {
-        return BuildAnswer::Built(p.end);
+        return Ok(p.end);
     }
-    BuildAnswer::Refused(Refusal::OffsetOverflow)
+    Err(Refusal::OffsetOverflow)
 }

@@ -8,7 +8,7 @@ ghost use Rattle.builder.specs.Size.{Named, nodes_of, reach_of, fits_width, Leve
 use fields::least::least;
 use format::Layout;
 use offsets::rel_ptr::ones;
-use offsets::ser::writer::{Aligned, align};
+use offsets::ser::writer::align;
 
 // The levels above the last one (rkyv's `entries_to_height`), the power of the number of children, of which one less is the entries there, the nodes
 // right over the last level, and the nodes above those.
@@ -117,10 +117,10 @@ fn start_of(header: usize, alignment: usize) -> usize
     requires { (header ≤ 4096) × (alignment ≤ 8) × (is_alignment alignment ≡ true) }
     ensures { (result ≡ header + zeros_to alignment header) × (result < header + 8) }
 {
-    let Aligned::At { next, zeros } = align(header as u64, alignment as u64) else {
+    let Ok(step) = align(header as u64, alignment as u64) else {
         return header;
     };
-    next as usize
+    step.next as usize
 }
 
 // The number of entries, the levels above the last one, what the last one takes, where the archive begins behind the header and where it ends, and
