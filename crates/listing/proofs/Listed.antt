@@ -12,7 +12,8 @@ use Rattle.format.specs.Refusal.{Answer, gives, refuses}
 use Rattle.format.specs.Check.{Checked, accepted, refused, counted, check_archive}
 use Rattle.format.specs.Entries.{list}
 use Rattle.format.specs.Written.{written, over, keys_after, values_after}
-use Rattle.format.specs.Calls.{Walk, walk_call, walk_keys, walk_values}
+use Rattle.format.specs.Calls.{walk_call, walk_keys, walk_values}
+use Rattle.format.specs.declared.Walk.{Walk}
 use Rattle.format.proofs.Laws.Check.Archive.{archive}
 use Rattle.format.proofs.Laws.Calls.Accepted.{walk-refuses, walk-accepted, walk-keys-accepted, walk-values-accepted}
 use Rattle.listing.specs.Listing.{title, title_line, entry_line, entry_lines, first_lines, entries, listing}

@@ -7,8 +7,7 @@ ghost use Rattle.std.specs.Io.KnownBytes.{Appends, Consumes};
 ghost use Rattle.text.specs.Decimal.{decimal};
 ghost use Rattle.listing.specs.Listing.{title, title_line, entry_line, first_lines, listing, printed};
 
-use format::{CheckAnswer, Layout, Limits};
-use readers::WalkAnswer;
+use format::{Layout, Limits};
 use std::io;
 use std::io::{Read, Write};
 use text::Text;
@@ -40,16 +39,12 @@ enum Title {
 fn title_of(archive: &[u8]) -> Title
     ensures { result ≡ title archive.now }
 {
-    if let CheckAnswer::Accepted(count) = fieldmap::certify(
-        Layout::COMMON,
-        Limits::SERVER,
-        archive,
-    ) {
+    if let Ok(count) = fieldmap::certify(Layout::COMMON, Limits::SERVER, archive) {
         return Title::Certified(count as u64);
     }
     match fieldmap::check(Layout::COMMON, Limits::SERVER, archive) {
-        CheckAnswer::Accepted(count) => Title::Open(count as u64),
-        CheckAnswer::Refused(why) => Title::Refused(fieldmap::refusal_number(why)),
+        Ok(count) => Title::Open(count as u64),
+        Err(why) => Title::Refused(fieldmap::refusal_number(why)),
     }
 }
 
@@ -108,17 +103,15 @@ fn put_listing(text: &mut Text<LONGEST_TEXT>, archive: &[u8])
     let mut keys = [0u64; MOST_ENTRIES];
     let mut values = [0u64; MOST_ENTRIES];
     put_title(text, title_of(archive));
-    match fieldmap::walk(
+    let walked = fieldmap::walk(
         Layout::COMMON,
         Limits::SERVER,
         archive,
         &mut keys,
         &mut values,
-    ) {
-        WalkAnswer::Refused(_) => {}
-        WalkAnswer::Walked(written, _) => {
-            put_entries(text, &keys[..written], &values[..written]);
-        }
+    );
+    if let Ok(walk) = walked {
+        put_entries(text, &keys[..walk.written], &values[..walk.written]);
     }
 }
 

@@ -1,20 +1,19 @@
 -- `listing::title_of` meets its contract. Assumes nothing.
-use mathlib.Core.Path.{sym, ap, ◌∙◌}
+use Rattle.std.proofs.Common.{sym, ap, ◌∙◌}
 use Rattle.format.specs.Layout.{server, counts_as}
-use Rattle.readers.proofs.Told.{accepted-told, refused-told}
+use Rattle.format.specs.Refusal.{answer_of}
 use Rattle.listing.specs.declared.Title.TheVariants.{Refused}
 use Rattle.listing.proofs.Texts.{title-certified, title-open, title-refused}
 use Rattle.listing.proofs.title_of.Goals as goal
 
-pub returns-in-Accepted : goal.returns-in-Accepted
+pub returns-in-Ok : goal.returns-in-Ok
 unfolding server counts_as
-returns-in-Accepted c = sym (title-certified _ _ (accepted-told c.in-Accepted.is (search)))
+returns-in-Ok c = sym (title-certified _ _ (sym c.in-Ok.ensures))
 
-pub returns-in-Accepted-check : goal.returns-in-Accepted-check
+pub returns-in-Ok-check : goal.returns-in-Ok-check
 unfolding server counts_as
-returns-in-Accepted-check c =
-    sym (title-open _ _ _ (refused-told c.in_default.is (search)) (accepted-told c.in-Accepted-check.is (search)))
+returns-in-Ok-check c = sym (title-open _ _ _ (sym c.certify.ensures ∙ ap answer_of c.in_default.is) (sym c.in-Ok-check.ensures))
 
-pub returns-in-Refused : goal.returns-in-Refused
+pub returns-in-Err : goal.returns-in-Err
 unfolding server counts_as
-returns-in-Refused c = ap Refused c.refusal_number.ensures ∙ sym (title-refused _ _ (refused-told c.in-Refused.is (search)))
+returns-in-Err c = ap Refused c.refusal_number.ensures ∙ sym (title-refused _ _ (sym c.in-Err.ensures))
