@@ -28,26 +28,26 @@ struct Pass {
     hollow: bool,
 }
 
+// What certification asks beyond the check: whether a node is hollow, and whether the keys strictly ascend.
 #[derive(Clone, Copy)]
 pub struct Survey {
     pub hollow: bool,
     pub ascends: bool,
 }
 
+// Notes one key more.
 #[tactic(auto, unfolding(crate::specs::Survey::after))]
 fn note_key(order: KeyOrder, key: u64) -> KeyOrder
     ensures { result ≡ after key order }
 {
-    let follows = match order.last {
-        Some(last) => last < key,
-        None => true,
-    };
+    let follows = order.last.is_none_or(|last| last < key);
     KeyOrder {
         last: Some(key),
         ascends: order.ascends && follows,
     }
 }
 
+// Notes the key of slot i.
 #[tactic(auto, unfolding(format::specs::Node::slot))]
 fn note_slot(archive: &[u8], layout: Layout, pos: Position, i: usize, order: KeyOrder) -> KeyOrder
     requires { (pos.0 + head_size (layout_of layout) ≤ length archive.now) × (i < layout.entries) }
@@ -57,29 +57,27 @@ fn note_slot(archive: &[u8], layout: Layout, pos: Position, i: usize, order: Key
     note_key(order, u64_at(archive, p + Layout::KEYS + 8 * i))
 }
 
-// Notes the slots of a leaf. A leaf without slots is hollow.
+// Notes the slots of a leaf, which is hollow if it has none.
 fn note_leaf(archive: &[u8], layout: Layout, pos: Position, seen: Pass) -> Pass
     requires { (layout.entries ≤ 15) × Node (layout_of layout) server archive.now pos.0 × (get_or archive.now pos.0 0 ≡ 0) }
     ensures { Passed (layout_of layout) archive.now pos.0 seen result }
 {
     let n = leaf_len(archive, layout, pos);
-    let mut order = seen.order;
     if n == 0 {
         return Pass {
-            order,
             hollow: true,
+            ..seen
         };
     }
+    let mut order = seen.order;
     for i in 0..n {
         order = note_slot(archive, layout, pos, i, order);
     }
-    Pass {
-        order,
-        hollow: seen.hollow,
-    }
+    Pass { order, ..seen }
 }
 
 // Raises the flag for hollow nodes if an inner node's first child is absent.
+#[tactic(auto, using(crate::proofs::Surveys::own))]
 fn note_hollow(archive: &[u8], layout: Layout, pos: Position, known: bool) -> bool
     requires { (layout.entries ≤ 15) × InnerNode (layout_of layout) archive.now pos.0 }
     ensures { result ≡ (known || hollow (layout_of layout) archive.now pos.0 (kind (layout_of layout) archive.now pos.0)) }
@@ -99,6 +97,7 @@ fn certify_inner(archive: &[u8], layout: Layout, pos: Position, seen: Pass) -> P
     for i in 0..=layout.entries {
         if let Some(q) = child_at(archive, layout, pos, i) {
             let p = q.0;
+            // Each arm takes its answer apart: where one struct holds both answers, its copies through memory slow the pass.
             if archive[p] == 0 {
                 let below = note_leaf(archive, layout, q, Pass { order, hollow });
                 order = below.order;

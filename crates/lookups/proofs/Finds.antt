@@ -4,7 +4,6 @@ use Rattle.std.specs.Prelude.{Option, Some, None, Result, Ok, Err}
 use mathlib.Core.Path.{◌≡◌, refl, sym, ap, ◌∙◌}
 use Prim.Native.Nat.{ℕ, zero, suc, ◌+◌, ◌-◌, ◌*◌, ◌≤◌, ◌<◌}
 use native.Mathlib.Omega.{arith}
-use native.Mathlib.Nat.{sub-zero}
 use native.Mathlib.Numerals.{add-one}
 use mathlib.Core.List.{List, []}
 use lib.ListN.{length, take, drop, get_or}
@@ -14,7 +13,7 @@ use Rattle.format.specs.declared.Position.{Position}
 use Rattle.format.specs.Layout.{Layout, keys_from, head_size, Limits, nested}
 use Rattle.format.specs.Bytes.{le_at}
 use Rattle.format.specs.Node.{leaf, inner, child, leaf_count, slot}
-use Rattle.format.specs.Lookup.{Order, less, equal, greater, order, lookup_slots, lookup_children, lookup_body, lookup_at, bytes_of, place_of}
+use Rattle.format.specs.Lookup.{Order, less, equal, greater, order, lookup_slots, lookup_children, lookup_body, lookup_at, bytes_of}
 use Rattle.format.specs.Readable.{LeadsTo, child_at, Node, leaf_g, inner_g, Good, LeafNode, InnerNode}
 use Rattle.format.proofs.Laws.Read.Children.{on_child, on-at, on-absent, look-child, child-leads}
 use Rattle.format.proofs.Laws.Read.Node.{kind-leaf, as-leaf, as-inner, lookup-node}
@@ -147,7 +146,8 @@ module _ (L : Layout) (M : Limits) (s : List ℕ) where
       unfolding inner_found
       inner-miss i c k e a = cc (lookup-inner p key v h, on-absent None (lookup_at L s key (nested M)) (child_at L s (child L p i)) (sym e ∙ a), t, q)
 
-      pub inner-down : (i : ℕ) (c : Option Position) (w : Position) → r ≡ Err i → c ≡ child_at L s (child L p i) → c ≡ Some w → lookup_at L s key (nested M) w.0 ≡ g
+      pub inner-down : (i : ℕ) (c : Option Position) (w : Position) → r ≡ Err i → c ≡ child_at L s (child L p i) → c ≡ Some w
+          → lookup_at L s key (nested M) w.0 ≡ g
       unfolding inner_found
       inner-down i c w k e a = cc (lookup-inner p key v h, on-at None (lookup_at L s key (nested M)) (child_at L s (child L p i)) w (sym e ∙ a), t, q)
 
@@ -231,11 +231,3 @@ module _ (L : Layout) (M : Limits) (s : List ℕ) (p key : ℕ) (r : Option Entr
   pub bytes-none : r ≡ None → [] ≡ bytes_of s (lookup_at L s key (nested M) p)
   unfolding bytes_of
   bytes-none k = rw (← q, k) refl
-
-  -- b is where the part stands, of an archive that stands at a.
-  module _ (a b : ℕ × ℕ) (base : b.0 ≡ a.0) where
-    pub place-some : (e : Entry) → r ≡ Some e → b.1 ≡ a.1 + e.position.0 → b ≡ place_of a (lookup_at L s key (nested M) p)
-    place-some e k o = same_place base o ∙ ap (place_of a) (sym k ∙ q)
-
-    pub place_none : r ≡ None → b.1 ≡ a.1 → b ≡ place_of a (lookup_at L s key (nested M) p)
-    place_none k o = same_place base o ∙ ap (place_of a) (sym k ∙ q)

@@ -1,6 +1,6 @@
 -- Laws of many lookups: of a step, of the keys looked up so far, and of the call by what check answers. Assumes nothing.
 use Rattle.std.specs.Prelude.{Option, Some, None}
-use Prim.Native.Nat.{ℕ, zero, suc, ◌+◌, ◌-◌, ◌≤◌, min}
+use Prim.Native.Nat.{ℕ, zero, suc, ◌+◌, ◌-◌, ◌≤◌}
 use mathlib.Core.Path.{◌≡◌, refl, sym, ◌∙◌, ap}
 use mathlib.Core.List.{List}
 use native.Mathlib.Omega.{arith}
@@ -53,9 +53,6 @@ module _ (look : ℕ → Option Entry) (ks vs : List ℕ) where
 
     pub first_more : (us' : List ℕ) (n' : ℕ) → many us' n' ≡ store (look (get_or ks i 0)) i (many us n) → many us' n' ≡ first_many look ks vs (i + 1)
     first_more us' n' t = t ∙ ap (store (look (get_or ks i 0)) i) e ∙ sym (first-suc i) ∙ ap (first_many look ks vs) (sym (add-one i))
-
-    pub first-all : (m : ℕ) → m ≡ min (length ks) (length vs) → i ≤ m → m ≤ i → many us n ≡ all_many look ks vs
-    first-all m em h g = let z : i ≡ sought ks vs = omega arith in e ∙ ap (first_many look ks vs) z
 
 -- Lookups that agree leave the same.
 same_first : (f g : ℕ → Option Entry) → ((k : ℕ) → f k ≡ g k) → (ks vs : List ℕ) (n : ℕ) → first_many f ks vs n ≡ first_many g ks vs n

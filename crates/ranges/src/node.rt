@@ -53,21 +53,21 @@ fn range_leaf(
     at
 }
 
-// The key of slot i of an inner node; the greatest of all keys for the greater child, which no slot follows.
+// Reads the key of slot i of an inner node. The greatest of all keys stands for the slot after the greater child, which is not there.
 fn key_after(archive: &[u8], layout: Layout, pos: Position, i: usize) -> u64
     requires { (layout.entries ≤ 15) × (pos.0 + head_size (layout_of layout) ≤ length archive.now) }
     ensures { (i < layout.entries → result ≡ le_at 8 archive.now (key_at (layout_of layout) pos.0 i))
         × (layout.entries ≤ i → result + 1 ≡ 2 ^ 64) }
 {
-    let p = pos.0;
-    if i < layout.entries {
-        return u64_at(archive, p + Layout::KEYS + 8 * i);
+    if i >= layout.entries {
+        return u64::MAX;
     }
-    0xffff_ffff_ffff_ffff
+    let p = pos.0;
+    u64_at(archive, p + Layout::KEYS + 8 * i)
 }
 
-// The same from an inner node on. A child whose slot is below `least` is passed over, and so is all that follows the child of the first slot past
-// `greatest`. A leaf takes no call of this function.
+// Does the same from an inner node on. It passes over each child whose slot is below `least`, and over all that follows the child of the first slot
+// past `greatest`. A leaf takes no call of this function.
 fn range_inner(
     archive: &[u8],
     layout: Layout,
@@ -110,7 +110,7 @@ fn range_inner(
     at
 }
 
-// The same from any node on.
+// Does the same from any node on.
 pub(crate) fn range_node(
     archive: &[u8],
     layout: Layout,

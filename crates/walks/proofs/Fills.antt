@@ -1,21 +1,16 @@
 -- Laws of a walk that writes to two lists: at full lists, from their fronts, and many slots at once. Assumes nothing.
-use Rattle.std.specs.Prelude.{◌≡◌, ℕ, zero, suc, ◌+◌, ◌-◌, ◌*◌, ◌<◌, ◌≤◌, min, List, [], ◌∷◌, ◌++◌, length, set, map, take, drop}
+use Rattle.std.specs.Prelude.{◌≡◌, ℕ, zero, suc, ◌+◌, ◌*◌, ◌≤◌, min, List, length, set, map}
 use Rattle.std.proofs.Math.Path.{refl}
 use Rattle.std.proofs.Common.{sym, ap, subst, ◌∙◌, add-one, arith, length-set}
-use Rattle.std.proofs.Math.Decide.{dec_lt}
 use Rattle.format.specs.declared.Entry.{Entry}
 use Rattle.format.specs.Layout.{Layout, keys_from, values_from}
 use Rattle.format.specs.Bytes.{le_at}
 use Rattle.format.specs.Node.{slot}
 use Rattle.format.specs.Entries.{slots}
 use Rattle.format.specs.Written.{Out, out, put, fill, walked}
-use Rattle.format.proofs.Laws.Read.Written.{runs_none, runs-cons, runs_append, put-room, fill-full, all-filled}
+use Rattle.format.proofs.Laws.Read.Written.{runs_none, runs-cons, put-room, fill-full, all-filled}
 use Rattle.std.specs.List.{range_with_len}
-use Rattle.std.proofs.lemmas.List.Edits.{sets, sets-eq, paste_all}
-use Rattle.std.proofs.lemmas.Slice.{put_mid-paste}
-use borrow.Rule.Slice.PartMut.{put_mid}
-use mathlib.Core.List.{append_assoc}
-use Rattle.std.proofs.lemmas.List.FromFn.{length-map-range_with_len}
+use Rattle.std.proofs.lemmas.List.Edits.{sets}
 
 pub full-kept : (es : List Entry) (ks vs : List ℕ) (n : ℕ) → min (length ks) (length vs) ≤ n → out ks vs n ≡ fill es (out ks vs n)
 full-kept es ks vs n h = sym (fill-full es ks vs n h)
@@ -28,17 +23,6 @@ walk-done es ks vs o e = e ∙ all-filled es ks vs
 sets-more : (f : ℕ → ℕ) (l : List ℕ) (start i n : ℕ)
     → sets (set l start (f i)) (start + 1) (map f (range_with_len (suc i) n)) ≡ sets l start (map f (range_with_len i (suc n)))
 sets-more f l start i n = rw (add-one start, add-one i) refl
-
--- What a copy to a part of a list leaves.
-put-sets : (l ys zs : List ℕ) (start k n : ℕ) → ys ≡ zs → n ≡ k → n ≡ length zs → start + n ≤ length l → put_mid start k l ys ≡ sets l start zs
-put-sets l ys zs start k n e z h r =
-    let room : start + length zs ≤ length l = omega arith in
-    cc (
-      put_mid-paste start k l ys zs n e z h,
-      paste_all l start zs n h,
-      sets-eq zs l start room,
-      append_assoc (take start l) zs (drop (start + n) l),
-    )
 
 module _ (L : Layout) (s : List ℕ) (p : ℕ) where
   abbrev numbers : ℕ → ℕ → ℕ → List ℕ
@@ -61,12 +45,10 @@ module _ (L : Layout) (s : List ℕ) (p : ℕ) where
       ∙ cc (keys, values, z)
 
   -- The code reads the keys as a and the values as b, these from x on.
-  pub slots_put : (n k m : ℕ) (ks vs : List ℕ) (start : ℕ) (a b : List ℕ) (x : ℕ) → start + n ≤ length ks → start + n ≤ length vs → n ≡ k → n ≡ m
+  pub slots_put : (n : ℕ) (ks vs : List ℕ) (start : ℕ) (a b : List ℕ) (x : ℕ) → start + n ≤ length ks → start + n ≤ length vs
       → a ≡ map (λ (k : ℕ). le_at 8 s (p + 8 + 8 * k)) (range_with_len 0 n) → x ≡ values_from L
       → b ≡ map (λ (k : ℕ). le_at 8 s (p + x + 8 * k)) (range_with_len 0 n)
-      → out (put_mid start k ks a) (put_mid start m vs b) (start + n) ≡ fill (slots L s p n 0) (out ks vs start)
-  slots_put n k m ks vs start a b x h g z w ea ex eb =
-      let eb' : b ≡ numbers (values_from L) 0 n = subst (λ (y : ℕ). b ≡ numbers y 0 n) ex eb in
-      let one = put-sets ks a (numbers keys_from 0 n) start k n ea z (sym (length-map-range_with_len _ 0 n)) h in
-      let two = put-sets vs b (numbers (values_from L) 0 n) start m n eb' w (sym (length-map-range_with_len _ 0 n)) g in
+      → out (sets ks start a) (sets vs start b) (start + n) ≡ fill (slots L s p n 0) (out ks vs start)
+  slots_put n ks vs start a b x h g ea ex eb =
+      let read : b ≡ numbers (values_from L) 0 n = subst (λ (y : ℕ). b ≡ numbers y 0 n) ex eb in
       cc (slots-set n 0 ks vs start h g)

@@ -1,6 +1,7 @@
 // The walk in an archived B-tree map (rkyv's src/collections/btree/map/mod.rs), from a node that the check has accepted.
 ghost use Rattle.std.specs.Prelude.{◌≡◌, ◌+◌, ◌*◌, ◌≤◌, get_or, length, map};
 ghost use Rattle.std.specs.List.{range_with_len};
+ghost use Rattle.std.proofs.lemmas.List.Edits.{sets};
 ghost use Rattle.format.specs.Layout.{layout_of, head_size, server, nested};
 ghost use Rattle.format.specs.Bytes.{le_at};
 ghost use Rattle.format.specs.Node.{leaf_count};
@@ -25,6 +26,17 @@ fn read<const N: usize>(archive: &[u8], p: usize) -> [u64; N]
     numbers
 }
 
+// Stores N numbers in the list, from index `start` on.
+#[inline(always)]
+fn store<const N: usize>(list: &mut [u64], start: usize, numbers: [u64; N])
+    requires { start + N ≤ length list.old }
+    ensures { list.new ≡ sets list.old start numbers.entry }
+{
+    for i in 0..N {
+        list[start + i] = numbers[i];
+    }
+}
+
 // Writes a node's first N slots at index `start` of both lists, and returns the index past them. All keys are read before the first is stored, and then
 // the values, with no test between, so that the compiler can copy several at once.
 #[inline(always)]
@@ -42,14 +54,14 @@ fn put_slots<const N: usize>(
         ≡ fill (slots (layout_of layout) archive.now pos.0 N 0) (out keys.old values.old start) }
 {
     let p = pos.0;
-    let numbers = read::<N>(archive, p + Layout::KEYS);
-    keys[start..start + N].copy_from_slice(&numbers);
-    let numbers = read::<N>(archive, p + layout.values());
-    values[start..start + N].copy_from_slice(&numbers);
+    store(keys, start, read::<N>(archive, p + Layout::KEYS));
+    store(values, start, read::<N>(archive, p + layout.values()));
     start + N
 }
 
-// Writes a leaf's entries from index `start` of both lists on, as many as both have room for, and returns the index past them.
+// Writes a leaf's entries from index `start` of both lists on, as many as both have room for, and returns the index past them. It is inlined since a call
+// for each leaf is slower.
+#[inline(always)]
 fn visit_leaf(
     archive: &[u8],
     layout: Layout,

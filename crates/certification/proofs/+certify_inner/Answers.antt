@@ -75,8 +75,7 @@ loop-i-preserved t c =
 pub returns-after-i-layout : goal.returns-after-i-layout
 returns-after-i-layout t c =
     let pre = c.requires in
-    let all = passed t (goal.at.returns-after-i-layout t c).Joined-i-layout in
-    (
+    let all = passed t (goal.at.returns-after-i-layout t c).Joined-i-layout in (
       left-done _ _ step server _ _ _ _ pre.1 pre.2 (omega arith) all.0,
       flag-done _ server _ _ pre.1 _ _ _ _ pre.2 (omega arith) c.note_hollow-hollow.ensures all.1,
     )

@@ -1,5 +1,5 @@
 -- `lookups::look_up_all` meets its contract. Assumes nothing.
-use mathlib.Core.Path.{refl, sym, ◌∙◌}
+use mathlib.Core.Path.{refl}
 use native.Mathlib.Omega.{arith}
 use borrow.Author.Rules.{rules}
 use Rattle.lookups.proofs.ManyLookups.{first-none, first_more, found-most, store_found, store_nothing}

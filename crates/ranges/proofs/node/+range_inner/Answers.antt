@@ -133,6 +133,3 @@ pub returns-after-i-layout : goal.returns-after-i-layout
 returns-after-i-layout t c =
     let g = goal.at.returns-after-i-layout t c in
     rest-done _ _ server _ _ _ _ _ (omega arith) ∙ passed t g.Joined-i-layout (joined t g.Joined-child_at)
-
-pub returns : goal.returns
-returns t c = rest-done _ _ server _ _ _ _ _ (omega arith) ∙ c.loop-i.invariant.4

@@ -40,9 +40,7 @@ visit_raw-at-requires t c =
     (below.0, (pre.0, below.1, c.if-archive-p-eq0.false))
 
 -- Where the arms of the child's test meet, the child's entries are written, or there is no child. Where the arms of the slot's test meet, there is one slot
--- more, or none is left.
--- Where the arms of the child's test meet, the child's entries are written, or there is no child. Where the arms of the slot's test meet, there is one slot
--- more, or none is left.
+-- more.
 pub loop-i-preserved : goal.loop-i-preserved
 loop-i-preserved t c =
     let L = layout_of c.args.layout in
@@ -56,7 +54,8 @@ loop-i-preserved t c =
     (elim m.branch [
       | in-Some+then-archive-p-eq0 w ↦
           let below = child-falls _ server _ _ c.decreases pre.1 pre.2 (omega arith) c.child_at.ensures w.in-Some.is in
-          inl (_, w.in-Some.is, leaf-run _ _ put server _ _ _ below.1 w.if-archive-p-eq0.true (out-same w.keys-is w.values-is w.at-is ∙ w.visit_leaf-at.ensures))
+          let same = out-same w.keys-is w.values-is w.at-is in
+          inl (_, w.in-Some.is, leaf-run _ _ put server _ _ _ below.1 w.if-archive-p-eq0.true (same ∙ w.visit_leaf-at.ensures))
       | in-Some+else-archive-p-eq0 w ↦ inl (_, w.in-Some.is, out-same w.keys-is w.values-is w.at-is ∙ w.visit_raw-at.ensures)
       | in_default w ↦ inr (w.in_default.is, out-same w.keys-is w.values-is w.at-is)
     ])
@@ -72,6 +71,7 @@ loop-i-preserved t c =
     in
     (search rules, search rules, passed)
 
+-- The same of the greater child, which no slot follows.
 pub returns-after-i-layout : goal.returns-after-i-layout
 returns-after-i-layout t c =
     let L = layout_of c.args.layout in
@@ -85,7 +85,8 @@ returns-after-i-layout t c =
     (elim m.branch [
       | in-Some+then-archive-p-eq0 w ↦
           let below = child-falls _ server _ _ c.decreases pre.1 pre.2 (omega arith) c.child_at.ensures w.in-Some.is in
-          inl (_, w.in-Some.is, leaf-run _ _ put server _ _ _ below.1 w.if-archive-p-eq0.true (out-same w.keys-is w.values-is w.at-is ∙ w.visit_leaf-at.ensures))
+          let same = out-same w.keys-is w.values-is w.at-is in
+          inl (_, w.in-Some.is, leaf-run _ _ put server _ _ _ below.1 w.if-archive-p-eq0.true (same ∙ w.visit_leaf-at.ensures))
       | in-Some+else-archive-p-eq0 w ↦ inl (_, w.in-Some.is, out-same w.keys-is w.values-is w.at-is ∙ w.visit_raw-at.ensures)
       | in_default w ↦ inr (w.in_default.is, out-same w.keys-is w.values-is w.at-is)
     ])

@@ -1,12 +1,13 @@
 -- `walks::map::put_slots` meets its contract. Assumes nothing.
-use mathlib.Core.Path.{◌∙◌}
-use native.Mathlib.Omega.{arith}
 use Rattle.format.specs.Layout.{layout_of}
 use Rattle.walks.proofs.Fills.{slots_put}
 use Rattle.walks.proofs.map.put_slots.Goals as goal
 
 pub returns : goal.returns
 returns g c =
-    let room = c.requires.room in
-    slots_put (layout_of c.args.layout) _ c.args.pos.0 g.row.N _ _ _ _ c.args.start _ _ c.values.result room.0 room.1 (omega arith) (omega arith)
-    (c.copy_from_slice.ensures.after ∙ c.read-numbers.ensures) c.values.ensures.0 (c.copy_from_slice-2.ensures.after ∙ c.read-numbers-2.ensures)
+    let a = c.args in
+    let r = c.requires.room in
+    let all = slots_put (layout_of a.layout) a.archive.now a.pos.0 g.row.N a.keys.now a.values.now a.start c.read.result c.read-2.result c.values.result
+    r.0 r.1 c.read.ensures c.values.ensures.0 c.read-2.ensures
+    in
+    cc (c.store.ensures, c.store-2.ensures, all)
