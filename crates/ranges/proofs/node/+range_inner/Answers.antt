@@ -121,7 +121,7 @@ passed t c met =
           (out-same w.keys-is w.values-is w.at-is
           ∙ slot-taken L s _ _ _ key _ _ c.if-key-least.false w.if-greatest-key.false _ _ _ w.visit_key_value_raw.ensures)
       | else-i-layout w ↦
-          left-last L s _ _ _ _ _ _ _ _ (out-same w.keys-is w.values-is w.at-is ∙ met) o.invariant.4 c.loop-i-test.true w.if-i-layout.false
+          left-last L s _ _ _ _ _ _ _ _ (out-same w.keys-is w.values-is w.at-is ∙ met) o.invariant.4 (omega (arith, c.loop-i-test.true)) w.if-i-layout.false
     ]
 
 pub loop-i-preserved : goal.loop-i-preserved
@@ -129,7 +129,5 @@ loop-i-preserved t c =
     let g = goal.at.loop-i-preserved t c in
     (omega arith, search rules, search rules, rest-ascends _ _ server _ _ c.loop-i.invariant.3, passed t g.Joined-i-layout (joined t g.Joined-child_at))
 
-pub returns-after-i-layout : goal.returns-after-i-layout
-returns-after-i-layout t c =
-    let g = goal.at.returns-after-i-layout t c in
-    rest-done _ _ server _ _ _ _ _ (omega arith) ∙ passed t g.Joined-i-layout (joined t g.Joined-child_at)
+pub returns : goal.returns
+returns t c = rest-done _ _ server _ _ _ _ _ (omega arith) ∙ c.loop-i.invariant.4
