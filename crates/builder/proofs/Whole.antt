@@ -10,14 +10,11 @@ use lib.ListN.{length, replicate, length-replicate}
 use Rattle.format.specs.Layout.{Width, two, four, eight, bytes, sign_bits, Layout, pointer, node_align, record_size}
 use Rattle.format.specs.declared.Position.{Position}
 use Rattle.format.specs.Bytes.{le_bytes, put}
-use Rattle.format.specs.Refusal.{gives, refuses}
-use Rattle.format.specs.Align.{is_alignment, zeros_to, align_step}
-use Rattle.format.specs.declared.Step.{Step}
+use Rattle.format.specs.Align.{is_alignment, zeros_to}
 use Rattle.format.specs.Tree.{offset_bytes, Branch, none_b, some_b, length_branch, child_of, write_branch, KeyValue}
 use Rattle.format.specs.Weight.{weight, reach}
 use Rattle.format.specs.Build.{log_from, height, last_level, tree_of, first_align, record_bytes, behind}
 use Rattle.format.specs.TreeShape.{There}
-use Rattle.format.proofs.Laws.Numbers.Align.{alignment-pos, step_given, zeros-lt}
 use Rattle.format.proofs.Laws.Build.NodeBytes.{length-offset, length-write_branch}
 use Rattle.format.proofs.Laws.Build.Weight.{tree-weighs}
 use Rattle.format.proofs.Laws.Build.Built.{behind-length, tree-there}
@@ -28,34 +25,11 @@ use Rattle.builder.proofs.Levels.{fits}
 
 -- ---- the start
 
-pub node-aligns : is_alignment node_align ≡ true
-unfolding is_alignment
-node-aligns = refl
-
 pub record-aligns : (w : Width) → (0 < bytes w) × (bytes w ≤ 8) × (is_alignment (bytes w) ≡ true)
 unfolding is_alignment
 record-aligns two = (omega arith, omega arith, refl)
 record-aligns four = (omega arith, omega arith, refl)
 record-aligns eight = (omega arith, omega arith, refl)
-
-module _ (h a : ℕ) (low : h ≤ 4096) (few : a ≤ 8) (is : is_alignment a ≡ true) where
-  abbrev start : Step
-  start = record { next = h + zeros_to a h; zeros = zeros_to a h }
-
-  stepped : align_step h a ≡ gives start
-  stepped = let z = zeros-lt a h (alignment-pos a is) in step_given h a is (omega arith) (omega arith)
-
-  pub start-some : (s : Step) → gives s ≡ align_step h a → (s.next ≡ h + zeros_to a h) × (s.next < h + 8)
-  start-some s e =
-      let y : gives s ≡ gives start = e ∙ stepped in
-      let x : s ≡ start = cc in
-      let n = ap (λ (t : Step). t.next) x in
-      (n, omega (arith, n, zeros-lt a h (alignment-pos a is)))
-
-  pub start_none : (n : ℕ) → refuses n ≡ align_step h a → (h ≡ h + zeros_to a h) × (h < h + 8)
-  start_none n e =
-      let y : refuses n ≡ gives start = e ∙ stepped in
-      let x : ◌≡◌ {A = ℕ} 0 1 = cc in absurd (omega arith)
 
 -- ---- the end
 

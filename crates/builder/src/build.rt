@@ -17,16 +17,11 @@ use serialize::given::Given;
 use serialize::map::{Place, serialize_from_ordered_iter};
 
 // The most entries of an archive, and the longest header in bytes.
-#[derive(Clone, Copy)]
-struct Most;
+const MOST_ENTRIES: usize = 40000;
 
-impl Most {
-    const ENTRIES: usize = 40000;
+const LONGEST_HEADER: usize = 4096;
 
-    const HEADER: usize = 4096;
-}
-
-// Four keys at a time where there are as many.
+// Tells whether each key is above the one before it, four at a time where there are as many: `is_sorted_by` is slower.
 fn ascending(keys: &[u64]) -> bool
     ensures { result ≡ rises keys.now }
 {
@@ -51,7 +46,7 @@ fn ascending(keys: &[u64]) -> bool
     true
 }
 
-// The record (rkyv's `resolve_from_len`): the root's offset and the count.
+// Writes the record (rkyv's `resolve_from_len`): the root's offset and the count.
 fn resolve_from_len(out: &mut [u8], layout: Layout, at: Position, root: Option<ChildPos>, n: usize)
     requires { at.0 + record_size (layout_of layout) ≤ length out.old }
     ensures { out.new ≡ put out.old at.0 (record_bytes (layout_of layout) at.0 (child_at root) n) }
@@ -63,7 +58,8 @@ fn resolve_from_len(out: &mut [u8], layout: Layout, at: Position, root: Option<C
     put_uint(out, p + layout.pointer(), width, n as u64);
 }
 
-// Writes zeros behind the header, the nodes and the record.
+// Writes zeros behind the header, the nodes and the record. A call would copy the given entries once more.
+#[inline(always)]
 fn put_archive(out: &mut [u8], given: Given<'_>, header: usize, p: Plan)
     requires named { Named (layout_of given.layout) (length given.keys.now) }
     requires header_bound { (header ≤ 4096) × Planned (layout_of given.layout) (length given.keys.now) header p × (p.end ≤ length out.old) }
@@ -82,7 +78,7 @@ fn put_archive(out: &mut [u8], given: Given<'_>, header: usize, p: Plan)
     resolve_from_len(out, given.layout, here.at, root, p.entries);
 }
 
-// The given entries as an archive behind the first `header` bytes of the output, which stay.
+// Writes the given entries as an archive behind the first `header` bytes of the output, which stay.
 pub fn build(
     out: &mut [u8],
     layout: Layout,
@@ -102,13 +98,13 @@ pub fn build(
     if n != values.len() {
         return Err(Refusal::IteratorLengthMismatch);
     }
-    if Most::ENTRIES < n {
+    if MOST_ENTRIES < n {
         return Err(Refusal::TooManyEntries);
     }
     if !ascending(keys) {
         return Err(Refusal::GivenKeysNotAscending);
     }
-    if Most::HEADER < header {
+    if LONGEST_HEADER < header {
         return Err(Refusal::HeaderTooLong);
     }
     let p = plan_of(layout, n, header);
@@ -128,22 +124,22 @@ pub fn build(
     Ok(end)
 }
 
-// How long the output has to be for so many entries behind a header.
+// Computes how long the output has to be for so many entries behind a header.
 pub fn build_length(layout: Layout, entries: usize, header: usize) -> Result<usize, Refusal>
     ensures { answer_of result ≡ build_length (layout_of layout) entries header }
 {
     if !layout.in_range() {
         return Err(Refusal::EntriesOutOfRange);
     }
-    if Most::ENTRIES < entries {
+    if MOST_ENTRIES < entries {
         return Err(Refusal::TooManyEntries);
     }
-    if Most::HEADER < header {
+    if LONGEST_HEADER < header {
         return Err(Refusal::HeaderTooLong);
     }
     let p = plan_of(layout, entries, header);
-    if p.fits {
-        return Ok(p.end);
+    if !p.fits {
+        return Err(Refusal::OffsetOverflow);
     }
-    Err(Refusal::OffsetOverflow)
+    Ok(p.end)
 }

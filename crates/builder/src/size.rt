@@ -1,14 +1,11 @@
 // What is known of an archive by the number of entries, with no walk over them: its levels, its end, and whether its offsets fit.
-ghost use Rattle.std.specs.Prelude.{◌≡◌, true, suc, ◌+◌, ◌-◌, ◌*◌, ◌^◌, ◌<◌, ◌≤◌, min};
-ghost use Rattle.format.specs.Align.{is_alignment, zeros_to};
+ghost use Rattle.std.specs.Prelude.{◌≡◌, suc, ◌+◌, ◌-◌, ◌*◌, ◌^◌, ◌<◌, ◌≤◌, min};
 ghost use Rattle.format.specs.Layout.{layout_of, leaf_size, inner_size};
 ghost use Rattle.format.specs.Weight.{up, size_by};
 ghost use Rattle.builder.specs.Size.{Named, nodes_of, reach_of, fits_width, Leveled, Planned};
 
-use fields::least::least;
 use format::Layout;
 use offsets::rel_ptr::ones;
-use offsets::ser::writer::align;
 
 // The levels above the last one (rkyv's `entries_to_height`), the power of the number of children, of which one less is the entries there, the nodes
 // right over the last level, and the nodes above those.
@@ -20,6 +17,7 @@ pub struct Levels {
     pub higher: usize,
 }
 
+// Counts the levels by powers, up to the last that n entries fill.
 fn levels_of(layout: Layout, n: usize) -> Levels
     requires { Named (layout_of layout) n × (0 < n) }
     ensures { Leveled (layout_of layout) n result }
@@ -42,7 +40,7 @@ fn levels_of(layout: Layout, n: usize) -> Levels
     }
 }
 
-// As many as t entries need where each takes up to `each`.
+// Counts how many t entries need if each takes up to `each`.
 fn needed(t: usize, each: usize) -> usize
     requires { (0 < each) × (t + each < 2 ^ 63) }
     ensures { result ≡ up t each }
@@ -50,21 +48,21 @@ fn needed(t: usize, each: usize) -> usize
     (t + (each - 1)) / each
 }
 
-// The bytes of a subtree with p nodes over the last level, which takes at most m entries, and q nodes above those. As many of the p as the last level
-// needs are inner nodes, the others full leaves.
+// Computes the bytes of a subtree with p nodes over the last level, which takes at most m entries, and q nodes above those. As many of the p as the
+// last level needs are inner nodes, the others full leaves.
 fn size_over(layout: Layout, p: usize, q: usize, m: usize) -> usize
     requires { Named (layout_of layout) m × (0 < p) × (p ≤ 40000) × (q ≤ 40000) }
     ensures { result ≡ size_by (leaf_size (layout_of layout)) (inner_size (layout_of layout)) layout.entries p q
         (min m (layout.entries * suc layout.entries * p)) }
 {
     let below = layout.entries * (layout.entries + 1);
-    let t = least(m, below * p);
+    let t = m.min(below * p);
     let inners = needed(t, below);
     let leaves = needed(t, layout.entries) + (p - inners);
     layout.leaf() * leaves + layout.inner() * (inners + q)
 }
 
-// The bytes of the nodes of n entries.
+// Computes the bytes of the nodes of n entries.
 fn nodes_of(layout: Layout, v: Levels, n: usize) -> usize
     requires { Named (layout_of layout) n × (0 < n) × Leveled (layout_of layout) n v }
     ensures { result ≡ nodes_of (layout_of layout) n }
@@ -75,7 +73,7 @@ fn nodes_of(layout: Layout, v: Levels, n: usize) -> usize
     size_over(layout, v.over, v.higher, n - (v.power - 1))
 }
 
-// How far back the root's first offset leads, the longest of all; `nodes` is the answer of `nodes_of`.
+// Computes how far back the root's first offset leads, the longest of all; `nodes` is the answer of `nodes_of`.
 fn reach_of(layout: Layout, v: Levels, n: usize, nodes: usize) -> usize
     requires named { Named (layout_of layout) n × (0 < n) × Leveled (layout_of layout) n v }
     requires nodes_value { nodes ≡ nodes_of (layout_of layout) n }
@@ -98,7 +96,7 @@ fn reach_of(layout: Layout, v: Levels, n: usize, nodes: usize) -> usize
     layout.inner() + (beside - first) + layout.node()
 }
 
-// No offset leads further back than the nodes are long, so most trees need no second size.
+// Tells whether the width holds all offsets. None leads further back than the nodes are long, so most trees need no second size.
 fn offsets_fit(layout: Layout, v: Levels, n: usize, nodes: usize) -> bool
     requires named { Named (layout_of layout) n × (0 < n) × Leveled (layout_of layout) n v }
     requires nodes_value { nodes ≡ nodes_of (layout_of layout) n }
@@ -110,17 +108,6 @@ fn offsets_fit(layout: Layout, v: Levels, n: usize, nodes: usize) -> bool
         return true;
     }
     reach_of(layout, v, n, nodes) as u64 <= most
-}
-
-// The first position on an alignment, from the header's end on.
-fn start_of(header: usize, alignment: usize) -> usize
-    requires { (header ≤ 4096) × (alignment ≤ 8) × (is_alignment alignment ≡ true) }
-    ensures { (result ≡ header + zeros_to alignment header) × (result < header + 8) }
-{
-    let Ok(step) = align(header as u64, alignment as u64) else {
-        return header;
-    };
-    step.next as usize
 }
 
 // The number of entries, the levels above the last one, what the last one takes, where the archive begins behind the header and where it ends, and
@@ -135,12 +122,13 @@ pub struct Plan {
     pub fits: bool,
 }
 
+// Plans an archive of n entries.
 pub(crate) fn plan_of(layout: Layout, n: usize, header: usize) -> Plan
     requires { Named (layout_of layout) n × (header ≤ 4096) }
     ensures { Planned (layout_of layout) n header result }
 {
     if n == 0 {
-        let first = start_of(header, layout.pointer());
+        let first = header.next_multiple_of(layout.pointer());
         return Plan {
             entries: 0,
             above: 0,
@@ -152,7 +140,7 @@ pub(crate) fn plan_of(layout: Layout, n: usize, header: usize) -> Plan
     }
     let v = levels_of(layout, n);
     let nodes = nodes_of(layout, v, n);
-    let first = start_of(header, Layout::NODE_ALIGN);
+    let first = header.next_multiple_of(Layout::NODE_ALIGN);
     Plan {
         entries: n,
         above: v.above,

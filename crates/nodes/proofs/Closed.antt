@@ -32,7 +32,7 @@ head-put L s p kind es h =
 
 -- ---- a leaf
 
-pub leaf-size : (L : Layout) → leaf_size L ≡ head_size L + 8
+leaf-size : (L : Layout) → leaf_size L ≡ head_size L + 8
 leaf-size L = by L.width
   where
     by : (w : Width) → (head_size L + bytes w + 7) / 8 * 8 ≡ head_size L + 8

@@ -58,7 +58,7 @@ zero-words (suc n) =
     let e : 8 * suc n ≡ suc (suc (suc (suc (suc (suc (suc (suc (8 * n)))))))) = omega arith in
     rw e (ap (λ (l : List ℕ). le_bytes 8 0 ++ l) (zero-words n))
 
-pub words_more : (l : List ℕ) (e : ℕ) → length l ≤ e → words e l ≡ words (length l) l ++ replicate (8 * (e - length l)) 0
+words_more : (l : List ℕ) (e : ℕ) → length l ≤ e → words e l ≡ words (length l) l ++ replicate (8 * (e - length l)) 0
 words_more [] e h = rw sub-zero (zero-words e)
 words_more (x ∷ l) zero h = absurd (omega arith)
 words_more (x ∷ l) (suc e) h =

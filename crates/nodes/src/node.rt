@@ -1,5 +1,5 @@
 // The bytes of closed nodes (rkyv's `close_leaf` and `close_inner` in src/collections/btree/map/mod.rs).
-ghost use Rattle.std.specs.Prelude.{◌≡◌, ◌+◌, ◌*◌, ◌^◌, ◌≤◌, ◌<◌, length, map};
+ghost use Rattle.std.specs.Prelude.{◌≡◌, ◌+◌, ◌*◌, ◌^◌, ◌≤◌, ◌<◌, length};
 ghost use Rattle.format.specs.Layout.{layout_of, pointer, leaf_size, inner_size};
 ghost use Rattle.format.specs.Bytes.{le_bytes, put};
 ghost use Rattle.format.specs.Tree.{offset_bytes, lesser_bytes, leaf_bytes, inner_bytes};

@@ -89,7 +89,8 @@ module _ (L : Layout) where
         ∙ ap (λ (x : ℕ). ends n out' (ss ++ (slot_of e k ∷ [])) q x es) (sym em)
 
     -- The child at p is written, and the entry after it goes to the node.
-    pub ends_more : (ks vs : List ℕ) (n : ℕ) (p r : Place) (k : Option ChildPos) (out out' : List ℕ) (ss : List Slot) → length ks ≡ length vs → r.next < length ks
+    pub ends_more : (ks vs : List ℕ) (n : ℕ) (p r : Place) (k : Option ChildPos) (out out' : List ℕ) (ss : List Slot) → length ks ≡ length vs
+        → r.next < length ks
         → Wrote L ks vs (give p.last (from ks vs p.next)) p out k r out'
         → ends (suc n) out ss p.at.0 p.last (from ks vs p.next)
         ≡ ends n out' (ss ++ (slot_of (record { key = get_or ks r.next 0; value = get_or vs r.next 0 }) (child_at k) ∷ []))

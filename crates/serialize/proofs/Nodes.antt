@@ -44,7 +44,8 @@ take-pairs (suc k) (x ∷ a) [] = refl
 take-pairs (suc k) (x ∷ a) (y ∷ b) = ap (λ (l : List KeyValue). record { key = x; value = y } ∷ l) (take-pairs k a b)
 
 -- The children of an inner node stand from the place p on to the place r, the last at c, and its slots have the entries between them.
-pub record Grew (L : Layout) (ks vs : List ℕ) (F : FilledBranches) (p : Place) (out : List ℕ) (ss : List Slot) (c : Option ChildPos) (r : Place) (out' : List ℕ) : Type 0 where
+pub record Grew (L : Layout) (ks vs : List ℕ) (F : FilledBranches) (p : Place) (out : List ℕ) (ss : List Slot) (c : Option ChildPos) (r : Place)
+    (out' : List ℕ) : Type 0 where
   pub bytes : out' ≡ put out p.at.0 (write_branches L F.branches p.at.0)
   pub slots : slots_in ks vs ss ≡ slots_of L F.branches p.at.0
   pub within : Within (length ks) ss
@@ -81,21 +82,20 @@ module _ (L : Layout) (ks vs : List ℕ) where
   last-fill {m = zero} es z f e = absurd (f refl)
   last-fill {m = suc m} es z f e = rw (z, e)
 
-  pub one-fill : {h k m : ℕ} (es : List KeyValue) → h ≡ 1 → m ≡ 0 → k ≡ L.entries → fill L h m es ≡ fill_leaf L k (m - k) es
+  pub one-fill : {h m : ℕ} (es : List KeyValue) → h ≡ 1 → m ≡ 0 → fill L h m es ≡ fill_leaf L L.entries m es
   unfolding fill
-  one-fill es h z e = rw (h, z, e) (let n : 0 - L.entries ≡ 0 = omega arith in rw n)
+  one-fill es h z = rw (h, z)
 
   pub leaf-fits : (h k m : ℕ) {n : ℕ} {p : Place} → fill L h p.last (from ks vs p.next) ≡ fill_leaf L k m (from ks vs p.next) → Ready L ks vs h p n
       → p.at.0 + leaf_size L ≤ min n most
   leaf-fits h k m {n} {p} e R = subst (λ (F : Filled). p.at.0 + length_branch L F.branch ≤ min n most) e R.fits
 
-  -- What is told of a leaf from the place with the entries that the last level takes after it.
-  pub leaf-filled : (h k : ℕ) {l : ℕ} {p r : Place} {c : Option ChildPos} {out out' : List ℕ} → l ≡ p.last - k
-      → fill L h p.last (from ks vs p.next) ≡ fill_leaf L k (p.last - k) (from ks vs p.next)
+  -- What is told of a leaf from a place where the last level takes l entries more.
+  pub leaf-filled : (h k : ℕ) {l : ℕ} {p r : Place} {c : Option ChildPos} {out out' : List ℕ}
+      → fill L h p.last (from ks vs p.next) ≡ fill_leaf L k l (from ks vs p.next)
       → Wrote L ks vs (fill_leaf L k l (from ks vs p.next)) (record { next = p.next; last = l; at = p.at }) out c r out'
       → Wrote L ks vs (fill L h p.last (from ks vs p.next)) p out c r out'
-  leaf-filled h k el e W =
-      rw e (record { bytes = W.bytes; child = W.child; at = W.at; rest = W.rest; next = W.next; last = W.last ∙ el })
+  leaf-filled h k e W = rw e (record { bytes = W.bytes; child = W.child; at = W.at; rest = W.rest; next = W.next; last = W.last })
 
   -- ---- an inner node
 
@@ -124,11 +124,13 @@ module _ (L : Layout) (ks vs : List ℕ) where
   pub wrote-long : {F : Filled} {p r : Place} {c : Option ChildPos} {out out' : List ℕ} → Wrote L ks vs F p out c r out' → length out' ≡ length out
   wrote-long {F} {p} {r} {c} {out} W = ap length W.bytes ∙ length-sets out p.at.0 (write_branch L F.branch p.at.0)
 
-  pub grew-long : {R : FilledBranches} {p r : Place} {c : Option ChildPos} {ss : List Slot} {out out' : List ℕ} → Grew L ks vs R p out ss c r out' → length out' ≡ length out
+  pub grew-long : {R : FilledBranches} {p r : Place} {c : Option ChildPos} {ss : List Slot} {out out' : List ℕ} → Grew L ks vs R p out ss c r out'
+      → length out' ≡ length out
   grew-long {R} {p} {r} {c} {ss} {out} G = ap length G.bytes ∙ length-sets out p.at.0 (write_branches L R.branches p.at.0)
 
   -- It is closed behind its children.
-  pub grew-closed : (R : FilledBranches) (p r : Place) (c : Option ChildPos) (ss : List Slot) (out₀ out out' : List ℕ) (n : ℕ) → Grew L ks vs R p out₀ ss c r out
+  pub grew-closed : (R : FilledBranches) (p r : Place) (c : Option ChildPos) (ss : List Slot) (out₀ out out' : List ℕ) (n : ℕ)
+      → Grew L ks vs R p out₀ ss c r out
       → out' ≡ put out r.at.0 (inner_bytes L r.at.0 (slots_in ks vs ss) (child_at c)) → n ≡ inner_size L
       → Wrote L ks vs (closed R) p out₀ (child_there r.at.0) (after r n) out'
   grew-closed R p r c ss out₀ out out' n G e en =

@@ -44,7 +44,8 @@ module _ (L : Layout) (ks vs : List ℕ) (h : ℕ) where
   -- ---- enough entries are left, and room
 
   -- What a child takes.
-  took : {p r : Place} {c : Option ChildPos} {out out' : List ℕ} → length ks ≡ length vs → p.next + (upper L h + min p.last (room L h)) ≤ length ks → Child-of p out c r out'
+  took : {p r : Place} {c : Option ChildPos} {out out' : List ℕ} → length ks ≡ length vs
+      → p.next + (upper L h + min p.last (room L h)) ≤ length ks → Child-of p out c r out'
       → (r.next ≡ p.next + (upper L h + min p.last (room L h))) × (r.last + min p.last (room L h) ≡ p.last)
   took {p} {r} {c} el l W =
       let es = from ks vs p.next in
@@ -116,7 +117,7 @@ module _ (L : Layout) (ks vs : List ℕ) (h : ℕ) where
         )
 
     -- The last child.
-    pub taking-end : {out out' : List ℕ} {ss : List Slot} {c : Option ChildPos} {p r : Place} {i : ℕ} → i ≡ L.entries
+    taking-end : {out out' : List ℕ} {ss : List Slot} {c : Option ChildPos} {p r : Place} {i : ℕ} → i ≡ L.entries
         → Taking out₀ p₀ out ss p i → Child-of p out c r out'
         → Grew L ks vs (fill_branches (fill L h) L.entries p₀.last (from ks vs p₀.next)) p₀ out₀ (take i ss) c r out'
     taking-end {out} {out'} {ss} {c} {p} {r} {i} ei T W =

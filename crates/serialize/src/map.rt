@@ -47,7 +47,8 @@ fn leaf(out: &mut [u8], given: Given<'_>, here: &mut Place, k: usize) -> Option<
     closed(here, given.layout.leaf())
 }
 
-// Writes a subtree with h levels above the last one. If the last level takes no more, the leaves stand one level higher.
+// Writes a subtree with h levels above the last one. If the last level takes no more, the leaves stand one level higher. A call for each leaf is slower,
+// so the code stands in the loop of `node_over`.
 #[cycle(serialize_from_ordered_iter_inner)]
 #[inline(always)]
 pub fn serialize_from_ordered_iter(
@@ -60,40 +61,58 @@ pub fn serialize_from_ordered_iter(
     ensures { WroteTree given.entry h here.old out.old result here.new out.new }
 {
     let entries = given.layout.entries;
-    let k = match h {
-        0 if here.last == 0 => return None,
-        0 => here.last.min(entries),
-        1 if here.last == 0 => entries,
-        _ => return inner(out, given, h, here),
-    };
-    here.last = here.last.saturating_sub(k);
-    leaf(out, given, here, k)
+    match h {
+        0 if here.last == 0 => None,
+        0 => {
+            let k = here.last.min(entries);
+            here.last -= k;
+            leaf(out, given, here, k)
+        }
+        1 if here.last == 0 => leaf(out, given, here, entries),
+        _ => inner(out, given, h, here),
+    }
 }
 
-// Writes a subtree with an inner node at its top: a subtree before each of its entries, and one after the last.
+// Writes a subtree with an inner node at its top. If the compiler knows that h is 1, the loop over the leaves is faster.
 #[cycle(serialize_from_ordered_iter_inner)]
 fn inner(out: &mut [u8], given: Given<'_>, h: usize, here: &mut Place) -> Option<ChildPos>
     requires h_nonzero { (0 < h) × (h ≡ 1 → 0 < here.old.last) }
     requires can_write { CanWrite given h here.old (length out.old) }
     ensures { WroteTree given.entry h here.old out.old result here.new out.new }
 {
+    if h == 1 {
+        return node_over(out, given, 1, here);
+    }
+    node_over(out, given, h, here)
+}
+
+// Writes an inner node behind its children: a subtree before each of its entries, and one after the last. The place is a copy, which stays in registers.
+#[cycle(serialize_from_ordered_iter_inner)]
+#[inline(always)]
+fn node_over(out: &mut [u8], given: Given<'_>, h: usize, here: &mut Place) -> Option<ChildPos>
+    requires h_nonzero { (0 < h) × (h ≡ 1 → 0 < here.old.last) }
+    requires can_write { CanWrite given h here.old (length out.old) }
+    ensures { WroteTree given.entry h here.old out.old result here.new out.new }
+{
     let entries = given.layout.entries;
     let mut slots = [Slot::EMPTY; Layout::MOST];
+    let mut p = *here;
     for i in 0..entries {
-        let lesser = serialize_from_ordered_iter(out, given, h - 1, here);
-        let place = here.next as u32;
+        let lesser = serialize_from_ordered_iter(out, given, h - 1, &mut p);
+        let place = p.next as u32;
         slots[i] = Slot { place, lesser };
-        here.next += 1;
+        p.next += 1;
     }
-    let greater = serialize_from_ordered_iter(out, given, h - 1, here);
+    let greater = serialize_from_ordered_iter(out, given, h - 1, &mut p);
     close_inner(
         out,
         given.layout,
-        here.at,
+        p.at,
         given.keys,
         given.values,
         &slots[..entries],
         greater,
     );
+    *here = p;
     closed(here, given.layout.inner())
 }

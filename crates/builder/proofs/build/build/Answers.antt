@@ -18,11 +18,11 @@ returns-then-n-values c =
     let e = refuse-10 (layout_of a.layout) a.keys.now a.values.now a.header a.out.now range c.if-n-values.true in
     record { answer = e.0; bytes = e.1 }
 
-pub returns-then-n-gt-ENTRIES : goal.returns-then-n-gt-ENTRIES
-returns-then-n-gt-ENTRIES c =
+pub returns-then-n-gt-MOST_ENTRIES : goal.returns-then-n-gt-MOST_ENTRIES
+returns-then-n-gt-MOST_ENTRIES c =
     let a = c.args in
     let range = sym c.in_range.ensures ∙ c.if-not-in_range.false in
-    let e = refuse-11 (layout_of a.layout) a.keys.now a.values.now a.header a.out.now range c.if-n-values.false c.if-n-gt-ENTRIES.true in
+    let e = refuse-11 (layout_of a.layout) a.keys.now a.values.now a.header a.out.now range c.if-n-values.false c.if-n-gt-MOST_ENTRIES.true in
     record { answer = e.0; bytes = e.1 }
 
 pub returns-then-not-ascending : goal.returns-then-not-ascending
@@ -30,17 +30,17 @@ returns-then-not-ascending c =
     let a = c.args in
     let range = sym c.in_range.ensures ∙ c.if-not-in_range.false in
     let e =
-    refuse-12 (layout_of a.layout) a.keys.now a.values.now a.header a.out.now range c.if-n-values.false c.if-n-gt-ENTRIES.false
+    refuse-12 (layout_of a.layout) a.keys.now a.values.now a.header a.out.now range c.if-n-values.false c.if-n-gt-MOST_ENTRIES.false
     (sym c.ascending.ensures ∙ c.if-not-ascending.true) in
     record { answer = e.0; bytes = e.1 }
 
-pub returns-then-header-gt-HEADER : goal.returns-then-header-gt-HEADER
-returns-then-header-gt-HEADER c =
+pub returns-then-header-gt-LONGEST_HEADER : goal.returns-then-header-gt-LONGEST_HEADER
+returns-then-header-gt-LONGEST_HEADER c =
     let a = c.args in
     let range = sym c.in_range.ensures ∙ c.if-not-in_range.false in
     let e =
-    refuse-13 (layout_of a.layout) a.keys.now a.values.now a.header a.out.now range c.if-n-values.false c.if-n-gt-ENTRIES.false
-    (sym c.ascending.ensures ∙ c.if-not-ascending.false) c.if-header-gt-HEADER.true in
+    refuse-13 (layout_of a.layout) a.keys.now a.values.now a.header a.out.now range c.if-n-values.false c.if-n-gt-MOST_ENTRIES.false
+    (sym c.ascending.ensures ∙ c.if-not-ascending.false) c.if-header-gt-LONGEST_HEADER.true in
     record { answer = e.0; bytes = e.1 }
 
 pub returns-then-out-end : goal.returns-then-out-end
@@ -48,8 +48,8 @@ returns-then-out-end c =
     let a = c.args in
     let range = sym c.in_range.ensures ∙ c.if-not-in_range.false in
     let e =
-    refuse-14 (layout_of a.layout) a.keys.now a.values.now a.header a.out.now range c.if-n-values.false c.if-n-gt-ENTRIES.false
-    (sym c.ascending.ensures ∙ c.if-not-ascending.false) c.if-header-gt-HEADER.false c.plan_of-p.ensures c.if-out-end.true in
+    refuse-14 (layout_of a.layout) a.keys.now a.values.now a.header a.out.now range c.if-n-values.false c.if-n-gt-MOST_ENTRIES.false
+    (sym c.ascending.ensures ∙ c.if-not-ascending.false) c.if-header-gt-LONGEST_HEADER.false c.plan_of-p.ensures c.if-out-end.true in
     record { answer = e.0; bytes = e.1 }
 
 pub returns-then-not-p : goal.returns-then-not-p
@@ -57,8 +57,8 @@ returns-then-not-p c =
     let a = c.args in
     let range = sym c.in_range.ensures ∙ c.if-not-in_range.false in
     let e =
-    refuse-16 (layout_of a.layout) a.keys.now a.values.now a.header a.out.now range c.if-n-values.false c.if-n-gt-ENTRIES.false
-    (sym c.ascending.ensures ∙ c.if-not-ascending.false) c.if-header-gt-HEADER.false c.plan_of-p.ensures (omega arith) (not-true _ c.if-not-p.true) in
+    refuse-16 (layout_of a.layout) a.keys.now a.values.now a.header a.out.now range c.if-n-values.false c.if-n-gt-MOST_ENTRIES.false
+    (sym c.ascending.ensures ∙ c.if-not-ascending.false) c.if-header-gt-LONGEST_HEADER.false c.plan_of-p.ensures (omega arith) (not-true _ c.if-not-p.true) in
     record { answer = e.0; bytes = e.1 }
 
 pub returns : goal.returns
@@ -66,7 +66,7 @@ returns c =
     let a = c.args in
     let range = sym c.in_range.ensures ∙ c.if-not-in_range.false in
     let e =
-    accepted (layout_of a.layout) a.keys.now a.values.now a.header a.out.now range c.if-n-values.false c.if-n-gt-ENTRIES.false
-    (sym c.ascending.ensures ∙ c.if-not-ascending.false) c.if-header-gt-HEADER.false c.plan_of-p.ensures (omega arith) (not-false _ c.if-not-p.false)
+    accepted (layout_of a.layout) a.keys.now a.values.now a.header a.out.now range c.if-n-values.false c.if-n-gt-MOST_ENTRIES.false
+    (sym c.ascending.ensures ∙ c.if-not-ascending.false) c.if-header-gt-LONGEST_HEADER.false c.plan_of-p.ensures (omega arith) (not-false _ c.if-not-p.false)
     _ c.put_archive.ensures in
     record { answer = e.0; bytes = e.1 }

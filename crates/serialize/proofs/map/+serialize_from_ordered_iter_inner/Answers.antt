@@ -1,10 +1,9 @@
 -- The children of an inner node are written before it, and it is closed behind them.
-use Rattle.std.proofs.Common.{◌∙◌, [], arith, refl}
+use Rattle.std.proofs.Common.{[], arith, refl}
 use Rattle.format.specs.Layout.{layout_of}
 use Rattle.serialize.proofs.Nodes.{none-wrote, last-fill, one-fill, leaf-fits, leaf-filled, inner-ready, inner-wrote, grew-closed}
 use Rattle.serialize.proofs.Taking.{ready-one, taking-start, taking-more, closing}
 use Rattle.serialize.proofs.map.+serialize_from_ordered_iter_inner.Goals as goal
-use Rattle.serialize.proofs.map.+serialize_from_ordered_iter_inner.Goals.{serialize_from_ordered_iter-in-0-2, serialize_from_ordered_iter-in-1}
 
 pub serialize_from_ordered_iter-returns-in-0 : goal.serialize_from_ordered_iter-returns-in-0
 serialize_from_ordered_iter-returns-in-0 t c = none-wrote _ _ _ _ _ c.in-0.is c.if-here-eq0.true c.requires.can_write
@@ -12,39 +11,38 @@ serialize_from_ordered_iter-returns-in-0 t c = none-wrote _ _ _ _ _ c.in-0.is c.
 pub serialize_from_ordered_iter-leaf-requires-clause-leaf_in_bounds : goal.serialize_from_ordered_iter-leaf-requires-clause-leaf_in_bounds
 serialize_from_ordered_iter-leaf-requires-clause-leaf_in_bounds t c =
     let L = layout_of c.args.given.layout in
-    elim c.match-h.branch [
-      | serialize_from_ordered_iter-in-0-2 w ↦
-          leaf-fits L _ _ _ _ _ (last-fill L [] [] _ w.in-0.is w.if-here-eq0.false (w.k-is ∙ w.min-k.ensures)) c.requires.can_write
-      | serialize_from_ordered_iter-in-1 w ↦ leaf-fits L _ _ _ _ _ (one-fill L [] [] _ w.in-1.is w.if-here-eq0-2.true w.k-is) c.requires.can_write
-    ]
+    leaf-fits L _ _ _ _ _ (last-fill L [] [] _ c.in-0.is c.if-here-eq0.false c.min-k.ensures) c.requires.can_write
 
-pub serialize_from_ordered_iter-returns : goal.serialize_from_ordered_iter-returns
-serialize_from_ordered_iter-returns t c =
+pub serialize_from_ordered_iter-returns-in-0-2 : goal.serialize_from_ordered_iter-returns-in-0-2
+serialize_from_ordered_iter-returns-in-0-2 t c =
     let L = layout_of c.args.given.layout in
-    let left = c.saturating_sub-here.ensures in
-    elim c.match-h.branch [
-      | serialize_from_ordered_iter-in-0-2 w ↦
-          leaf-filled L _ _ _ _ left (last-fill L [] [] _ w.in-0.is w.if-here-eq0.false (w.k-is ∙ w.min-k.ensures)) c.leaf.ensures
-      | serialize_from_ordered_iter-in-1 w ↦ leaf-filled L _ _ _ _ left (one-fill L [] [] _ w.in-1.is w.if-here-eq0-2.true w.k-is) c.leaf.ensures
-    ]
+    leaf-filled L _ _ _ _ (last-fill L [] [] _ c.in-0.is c.if-here-eq0.false c.min-k.ensures) c.leaf.ensures
 
-pub inner-loop-i-init : goal.inner-loop-i-init
-inner-loop-i-init t c =
+pub serialize_from_ordered_iter-leaf-requires-in-1-clause-leaf_in_bounds : goal.serialize_from_ordered_iter-leaf-requires-in-1-clause-leaf_in_bounds
+serialize_from_ordered_iter-leaf-requires-in-1-clause-leaf_in_bounds t c =
+    leaf-fits (layout_of c.args.given.layout) _ _ _ _ _ (one-fill _ [] [] _ c.in-1.is c.if-here-eq0-2.true) c.requires.can_write
+
+pub serialize_from_ordered_iter-returns-in-1 : goal.serialize_from_ordered_iter-returns-in-1
+serialize_from_ordered_iter-returns-in-1 t c =
+    leaf-filled (layout_of c.args.given.layout) _ _ _ _ (one-fill _ [] [] _ c.in-1.is c.if-here-eq0-2.true) c.leaf-in-1.ensures
+
+pub node_over-loop-i-init : goal.node_over-loop-i-init
+node_over-loop-i-init t c =
     taking-start _ _ _ _ _ _ _ refl (inner-ready _ _ _ c.requires.h_nonzero.0 c.requires.h_nonzero.1 c.requires.can_write).0
 
-pub inner-serialize_from_ordered_iter-lesser-requires : goal.inner-serialize_from_ordered_iter-lesser-requires
-inner-serialize_from_ordered_iter-lesser-requires t c = (omega (arith, c.requires.h_nonzero.0), ready-one _ _ _ _ c.loop-i.invariant.ready)
+pub node_over-serialize_from_ordered_iter-lesser-requires : goal.node_over-serialize_from_ordered_iter-lesser-requires
+node_over-serialize_from_ordered_iter-lesser-requires t c = (omega (arith, c.requires.h_nonzero.0), ready-one _ _ _ _ c.loop-i.invariant.ready)
 
-pub inner-loop-i-preserved : goal.inner-loop-i-preserved
-inner-loop-i-preserved t c =
+pub node_over-loop-i-preserved : goal.node_over-loop-i-preserved
+node_over-loop-i-preserved t c =
     let g = c.args.given in
     (taking-more _ _ _ _ _ _ g.same g.few c.loop-i-test.true c.loop-i.invariant c.serialize_from_ordered_iter-lesser.ensures).1
 
-pub inner-serialize_from_ordered_iter-greater-requires : goal.inner-serialize_from_ordered_iter-greater-requires
-inner-serialize_from_ordered_iter-greater-requires t c = (omega (arith, c.requires.h_nonzero.0), ready-one _ _ _ _ c.loop-i.invariant.ready)
+pub node_over-serialize_from_ordered_iter-greater-requires : goal.node_over-serialize_from_ordered_iter-greater-requires
+node_over-serialize_from_ordered_iter-greater-requires t c = (omega (arith, c.requires.h_nonzero.0), ready-one _ _ _ _ c.loop-i.invariant.ready)
 
-pub inner-close_inner-requires-clause-inner_in_bounds : goal.inner-close_inner-requires-clause-inner_in_bounds
-inner-close_inner-requires-clause-inner_in_bounds t c =
+pub node_over-close_inner-requires-clause-inner_in_bounds : goal.node_over-close_inner-requires-clause-inner_in_bounds
+node_over-close_inner-requires-clause-inner_in_bounds t c =
     let top = c.requires.h_nonzero in
     omega (
       arith,
@@ -52,8 +50,8 @@ inner-close_inner-requires-clause-inner_in_bounds t c =
           c.serialize_from_ordered_iter-greater.ensures).0,
     )
 
-pub inner-returns : goal.inner-returns
-inner-returns t c =
+pub node_over-returns : goal.node_over-returns
+node_over-returns t c =
     let top = c.requires.h_nonzero in
     let grew =
     (closing _ _ _ top.0 top.1 c.requires.can_write c.loop-i.auto.i-end c.loop-i-test.false c.loop-i.invariant

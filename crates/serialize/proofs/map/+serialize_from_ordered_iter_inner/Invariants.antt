@@ -5,11 +5,14 @@ use Rattle.serialize.proofs.Taking.{Taking}
 use Rattle.serialize.proofs.map.+serialize_from_ordered_iter_inner.Given as goal
 
 abbrev pub decreases-serialize_from_ordered_iter : goal.decreases-serialize_from_ordered_iter
-decreases-serialize_from_ordered_iter l = 2 * l.h + 1
+decreases-serialize_from_ordered_iter l = 3 * l.h + 2
 
 abbrev pub decreases-inner : goal.decreases-inner
-decreases-inner l = 2 * l.h
+decreases-inner l = 3 * l.h + 1
 
-abbrev pub invariant-inner-loop-i : goal.invariant-inner-loop-i
-invariant-inner-loop-i l =
-    Taking (layout_of l.given.layout) l.given.keys.now l.given.values.now (l.h - 1) l.fn.out l.fn.here l.out l.slots l.here l.i
+abbrev pub decreases-node_over : goal.decreases-node_over
+decreases-node_over l = 3 * l.h
+
+abbrev pub invariant-node_over-loop-i : goal.invariant-node_over-loop-i
+invariant-node_over-loop-i l =
+    Taking (layout_of l.given.layout) l.given.keys.now l.given.values.now (l.h - 1) l.fn.out l.fn.here l.out l.slots l.p l.i
