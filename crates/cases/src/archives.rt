@@ -2,237 +2,177 @@
 use crate::builds::blank;
 use crate::input::{
     next_bound, next_i8, next_layout, next_limits, next_packing, next_u8, next_u32, next_u64,
-    read_full,
 };
-use crate::output::{
-    print, print_checked, print_entries, print_line, print_number, print_pair, print_refused,
-};
-use fields::primitive::u64_at;
-use format::{Layout, Limits};
-use readers::{LookupAnswer, RangeAnswer, WalkAnswer};
+use crate::output::{print_answer, print_entries, print_refused};
+use format::{Layout, Limits, Matched, Refusal, Walk};
 use std::io;
 use std::io::Read;
 
-// The lent lists differ in length, here and in the ranges: the shorter has 64 places.
-fn replay_walk(rt: &impl Print, layout: Layout, limits: Limits, archive: &[u8]) -> io::Result<()> {
-    let mut keys = [0u64; 80];
-    let mut values = [0u64; 64];
-    print(rt, "walk ")?;
-    match fieldmap::walk(layout, limits, archive, &mut keys, &mut values) {
-        WalkAnswer::Refused(why) => print_refused(rt, why),
-        WalkAnswer::Walked(written, count) => {
-            print_pair(rt, written as u64, " of ", count as u64)?;
-            print_entries(rt, &keys, &values, written)
-        }
-    }
-}
-
-// The second form of lookup: the part's length, and the number that its eight bytes are.
-fn replay_bytes(
-    rt: &impl Print,
+// An archive, and what it is read at and under.
+#[derive(Clone, Copy)]
+struct Case<'a> {
     layout: Layout,
     limits: Limits,
-    archive: &[u8],
-    key: u64,
-) -> io::Result<()> {
-    let part = fieldmap::lookup_bytes(layout, limits, archive, key);
-    print(rt, "bytes ")?;
-    if part.len() < 8 {
-        return print_line(rt, part.len() as u64);
-    }
-    print_pair(rt, part.len() as u64, " ", u64_at(part, 0))
+    archive: &'a [u8],
 }
 
-fn replay_lookup<R: Read>(
-    rt: &impl Print,
+// Puts as many questions as the next number says.
+fn replay_many<R: Read, Q: FnMut(&mut R) -> io::Result<()>>(
     input: &mut R,
-    layout: Layout,
-    limits: Limits,
-    archive: &[u8],
-) -> io::Result<()> {
-    let key = next_u64(input)?;
-    print(rt, "lookup ")?;
-    match fieldmap::lookup(layout, limits, archive, key) {
-        LookupAnswer::Refused(why) => print_refused(rt, why)?,
-        LookupAnswer::Nothing => print(rt, "none\n")?,
-        LookupAnswer::Entry(e) => {
-            print_number(rt, e.key)?;
-            print(rt, " ")?;
-            print_pair(rt, e.value, " ", e.position.0 as u64)?;
-        }
+    mut question: Q,
+) -> io::Result<()>
+    requires { Q.IsAlwaysCallable question }
+{
+    for _ in 0..next_u32(input)? {
+        question(input)?;
     }
-    replay_bytes(rt, layout, limits, archive, key)
+    Ok(())
 }
 
+// Prints the answer to a range, and the entries that it wrote.
 fn print_range(
     rt: &impl Print,
-    answer: RangeAnswer,
+    question: &str,
+    answer: Result<Matched, Refusal>,
     keys: &[u64],
     values: &[u64],
 ) -> io::Result<()> {
     match answer {
-        RangeAnswer::Refused(why) => print_refused(rt, why),
-        RangeAnswer::Matched(written, matching) => {
-            print_pair(rt, written as u64, " of ", matching as u64)?;
+        Ok(Matched { written, matching }) => {
+            println!(rt; "{question} {written} of {matching}")?;
             print_entries(rt, keys, values, written)
         }
+        Err(why) => print_refused(rt, question, why),
     }
 }
 
-fn replay_range<R: Read>(
-    rt: &impl Print,
-    input: &mut R,
-    layout: Layout,
-    limits: Limits,
-    archive: &[u8],
-) -> io::Result<()> {
-    let lower = next_bound(input)?;
-    let upper = next_bound(input)?;
-    let mut keys = [0u64; 64];
-    let mut values = [0u64; 80];
-    print(rt, "range ")?;
-    let answer = fieldmap::range(
-        layout,
-        limits,
-        archive,
-        lower,
-        upper,
-        &mut keys,
-        &mut values,
-    );
-    print_range(rt, answer, &keys, &values)
-}
-
-fn replay_column<R: Read>(
-    rt: &impl Print,
-    input: &mut R,
-    layout: Layout,
-    limits: Limits,
-    archive: &[u8],
-) -> io::Result<()> {
-    let packing = next_packing(input)?;
-    let examination = next_u32(input)?;
-    let eye = next_u8(input)?;
-    let a = next_i8(input)?;
-    let b = next_i8(input)?;
-    let mut keys = [0u64; 80];
-    let mut values = [0u64; 64];
-    print(rt, "column ")?;
-    let answer = fieldmap::column(
-        layout,
-        limits,
-        archive,
-        packing,
-        examination,
-        eye,
-        a,
-        b,
-        &mut keys,
-        &mut values,
-    );
-    print_range(rt, answer, &keys, &values)
-}
-
-fn replay_lookups<R: Read>(
-    rt: &impl Print,
-    input: &mut R,
-    layout: Layout,
-    limits: Limits,
-    archive: &[u8],
-) -> io::Result<()> {
-    let mut left = next_u32(input)?;
-    while left > 0 {
-        replay_lookup(rt, input, layout, limits, archive)?;
-        left -= 1;
+impl Case<'_> {
+    // Replays the walk. The lent lists differ in length, here and in the ranges: the shorter has 64 places.
+    fn replay_walk(self, rt: &impl Print) -> io::Result<()> {
+        let mut keys = [0; 80];
+        let mut values = [0; 64];
+        match fieldmap::walk(
+            self.layout,
+            self.limits,
+            self.archive,
+            &mut keys,
+            &mut values,
+        ) {
+            Ok(Walk { written, count }) => {
+                println!(rt; "walk {written} of {count}")?;
+                print_entries(rt, &keys, &values, written)
+            }
+            Err(why) => print_refused(rt, "walk", why),
+        }
     }
-    Ok(())
-}
 
-fn replay_ranges<R: Read>(
-    rt: &impl Print,
-    input: &mut R,
-    layout: Layout,
-    limits: Limits,
-    archive: &[u8],
-) -> io::Result<()> {
-    let mut left = next_u32(input)?;
-    while left > 0 {
-        replay_range(rt, input, layout, limits, archive)?;
-        left -= 1;
+    // Replays the second form of lookup: prints the part's length, and the number that its eight bytes are.
+    fn replay_bytes(self, rt: &impl Print, key: u64) -> io::Result<()> {
+        let part = fieldmap::lookup_bytes(self.layout, self.limits, self.archive, key);
+        let length = part.len();
+        match part.first_chunk() {
+            Some(bytes) => println!(rt; "bytes {length} {}", u64::from_le_bytes(*bytes)),
+            None => println!(rt; "bytes {length}"),
+        }
     }
-    Ok(())
-}
 
-fn replay_columns<R: Read>(
-    rt: &impl Print,
-    input: &mut R,
-    layout: Layout,
-    limits: Limits,
-    archive: &[u8],
-) -> io::Result<()> {
-    let mut left = next_u32(input)?;
-    while left > 0 {
-        replay_column(rt, input, layout, limits, archive)?;
-        left -= 1;
+    fn replay_lookup<R: Read>(self, rt: &impl Print, input: &mut R) -> io::Result<()> {
+        let key = next_u64(input)?;
+        match fieldmap::lookup(self.layout, self.limits, self.archive, key) {
+            Ok(Some(entry)) => {
+                println!(rt; "lookup {} {} {}", entry.key, entry.value, entry.position.0)?;
+            }
+            Ok(None) => println!(rt; "lookup none")?,
+            Err(why) => print_refused(rt, "lookup", why)?,
+        }
+        self.replay_bytes(rt, key)
     }
-    Ok(())
+
+    fn replay_range<R: Read>(self, rt: &impl Print, input: &mut R) -> io::Result<()> {
+        let lower = next_bound(input)?;
+        let upper = next_bound(input)?;
+        let mut keys = [0; 64];
+        let mut values = [0; 80];
+        let answer = fieldmap::range(
+            self.layout,
+            self.limits,
+            self.archive,
+            lower,
+            upper,
+            &mut keys,
+            &mut values,
+        );
+        print_range(rt, "range", answer, &keys, &values)
+    }
+
+    fn replay_column<R: Read>(self, rt: &impl Print, input: &mut R) -> io::Result<()> {
+        let packing = next_packing(input)?;
+        let examination = next_u32(input)?;
+        let eye = next_u8(input)?;
+        let a = next_i8(input)?;
+        let b = next_i8(input)?;
+        let mut keys = [0; 80];
+        let mut values = [0; 64];
+        let answer = fieldmap::column(
+            self.layout,
+            self.limits,
+            self.archive,
+            packing,
+            examination,
+            eye,
+            a,
+            b,
+            &mut keys,
+            &mut values,
+        );
+        print_range(rt, "column", answer, &keys, &values)
+    }
+
+    // Replays the questions to each reader.
+    fn replay<R: Read>(self, rt: &impl Print, input: &mut R) -> io::Result<()> {
+        let checked = fieldmap::check(self.layout, self.limits, self.archive);
+        print_answer(rt, "check", checked)?;
+        let certified = fieldmap::certify(self.layout, self.limits, self.archive);
+        print_answer(rt, "certify", certified)?;
+        self.replay_walk(rt)?;
+        replay_many(input, |input| self.replay_lookup(rt, input))?;
+        replay_many(input, |input| self.replay_range(rt, input))?;
+        replay_many(input, |input| self.replay_column(rt, input))
+    }
 }
 
-fn replay_archive<R: Read>(
-    rt: &impl Print,
-    input: &mut R,
-    layout: Layout,
-    limits: Limits,
-    archive: &[u8],
-) -> io::Result<()> {
-    print(rt, "check ")?;
-    print_checked(rt, fieldmap::check(layout, limits, archive))?;
-    print(rt, "certify ")?;
-    print_checked(rt, fieldmap::certify(layout, limits, archive))?;
-    replay_walk(rt, layout, limits, archive)?;
-    replay_lookups(rt, input, layout, limits, archive)?;
-    replay_ranges(rt, input, layout, limits, archive)?;
-    replay_columns(rt, input, layout, limits, archive)
-}
-
-// Fills the list with the next archive.
-fn replay_next<R: Read>(
-    rt: &impl Print,
-    input: &mut R,
-    layout: Layout,
-    limits: Limits,
-    archive: &mut [u8],
-) -> io::Result<()> {
-    read_full(input, archive)?;
-    replay_archive(rt, input, layout, limits, archive)
-}
-
-// The next archive, read into the front of the buffer; nothing where it is too long for it.
+// Reads the next archive into the front of the buffer and replays it. Does nothing if it is too long for the buffer.
 pub fn replay_case<R: Read>(rt: &impl Print, input: &mut R, buffer: &mut [u8]) -> io::Result<()> {
     let layout = next_layout(input)?;
     let limits = next_limits(input)?;
     let length = next_u32(input)? as usize;
-    if length <= buffer.len() {
-        replay_next(rt, input, layout, limits, &mut buffer[..length])?;
+    if let Some(archive) = buffer.get_mut(..length) {
+        listing::read_full(input, archive)?;
+        let case = Case {
+            layout,
+            limits,
+            archive,
+        };
+        case.replay(rt, input)?;
     }
     Ok(())
 }
 
-fn check_common(rt: &impl Print, bytes: &[u8]) -> io::Result<()> {
-    print_checked(rt, fieldmap::check(Layout::COMMON, Limits::SERVER, bytes))
+fn check_common(rt: &impl Print, question: &str, bytes: &[u8]) -> io::Result<()> {
+    let checked = fieldmap::check(Layout::COMMON, Limits::SERVER, bytes);
+    print_answer(rt, question, checked)
 }
 
+// Checks the bytes, and all of them but the last.
 fn check_longest(rt: &impl Print, bytes: &[u8]) -> io::Result<()> {
-    print(rt, "too long ")?;
-    check_common(rt, bytes)?;
-    if 1048576 <= bytes.len() {
-        print(rt, "longest ")?;
-        check_common(rt, &bytes[..1048576])?;
+    check_common(rt, "too long", bytes)?;
+    if let Some((_, longest)) = bytes.split_last() {
+        check_common(rt, "longest", longest)?;
     }
     Ok(())
 }
 
-// The shortest archive that is too long, and the longest that is not. The input does not have them.
+// Checks the shortest archive that is too long, and the longest that is not. The input does not have them.
 pub fn replay_longest(rt: &impl Print) -> io::Result<()> {
     let bytes = blank();
     check_longest(rt, &bytes)

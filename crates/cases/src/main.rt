@@ -26,11 +26,10 @@ mod output;
 mod parts;
 
 use input::next_u8;
-use output::{print, print_line};
 use std::io;
 use std::io::Read;
 
-// The question of a kind, and whether there is one.
+// Replays the question of a kind, and answers whether there is one.
 fn replay_one<R: Read>(
     rt: &impl Print,
     input: &mut R,
@@ -54,25 +53,22 @@ fn replay_one<R: Read>(
     Ok(true)
 }
 
-// Nothing says that the input ends, so the questions are counted up to a number that no run reaches. How many there were.
+// Replays the questions and answers how many there were. Nothing says that the input ends, so they are counted up to a number that no run reaches.
 fn replay_all<R: Read>(rt: &impl Print, input: &mut R, buffer: &mut [u8]) -> io::Result<u64> {
-    let mut questions = 0;
-    while questions < u64::MAX {
+    for questions in 0..u64::MAX {
         let kind = next_u8(input)?;
         if !replay_one(rt, input, kind, buffer)? {
             return Ok(questions);
         }
-        questions += 1;
     }
-    Ok(questions)
+    Ok(u64::MAX)
 }
 
-// The last line says how many questions there were, so that none can be lost unseen.
+// Replays the sample. The last line says how many questions there were, so that none can be lost unseen.
 fn main(rt: HostRuntime) -> io::Result<()> {
     archives::replay_longest(&rt)?;
-    let mut buffer = [0u8; 65536];
+    let mut buffer = [0; 65536];
     let mut input = rt.stdin();
     let questions = replay_all(&rt, &mut input, &mut buffer)?;
-    print(&rt, "questions ")?;
-    print_line(&rt, questions)
+    println!(rt; "questions {questions}")
 }

@@ -1,4 +1,7 @@
 // What an open inner node holds of its entries and closed children (rkyv's src/util/inline_vec.rs).
+ghost use Rattle.std.specs.Prelude.{◌≡◌, ◌<◌, set};
+
+use format::Layout;
 
 // The position of a closed child. No archive has 2^32 bytes, so four are enough: the slots of every open node lie on the stack.
 #[derive(Clone, Copy)]
@@ -16,4 +19,26 @@ impl Slot {
         place: 0,
         lesser: None,
     };
+}
+
+// An inner node that takes entries, each after its lesser child.
+#[derive(Clone, Copy)]
+pub struct OpenInner {
+    pub slots: [Slot; Layout::MOST],
+}
+
+impl OpenInner {
+    pub const EMPTY: OpenInner = OpenInner {
+        slots: [Slot::EMPTY; Layout::MOST],
+    };
+
+    // Takes the i-th entry, and hands the node back.
+    #[inline(always)]
+    pub fn take(mut self, i: usize, slot: Slot) -> Self
+        requires { i < 15 }
+        ensures { result ≡ record { slots = set self.slots i slot } }
+    {
+        self.slots[i] = slot;
+        self
+    }
 }

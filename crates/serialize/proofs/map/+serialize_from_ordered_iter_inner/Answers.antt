@@ -36,6 +36,7 @@ node_over-serialize_from_ordered_iter-lesser-requires t c = (omega (arith, c.req
 pub node_over-loop-i-preserved : goal.node_over-loop-i-preserved
 node_over-loop-i-preserved t c =
     let g = c.args.given in
+    rw c.take-open.ensures
     (taking-more _ _ _ _ _ _ g.same g.few c.loop-i-test.true c.loop-i.invariant c.serialize_from_ordered_iter-lesser.ensures).1
 
 pub node_over-serialize_from_ordered_iter-greater-requires : goal.node_over-serialize_from_ordered_iter-greater-requires

@@ -15,4 +15,4 @@ decreases-node_over l = 3 * l.h
 
 abbrev pub invariant-node_over-loop-i : goal.invariant-node_over-loop-i
 invariant-node_over-loop-i l =
-    Taking (layout_of l.given.layout) l.given.keys.now l.given.values.now (l.h - 1) l.fn.out l.fn.here l.out l.slots l.p l.i
+    Taking (layout_of l.given.layout) l.given.keys.now l.given.values.now (l.h - 1) l.fn.out l.fn.here l.out l.open.slots l.p l.i
