@@ -1,156 +1,151 @@
-// The quick way of certification at the common layout, in one pass: the check, the order of the keys and the hollow nodes. What passes it is certified,
-// and of the rest nothing is known, so that the check and `certification` decide. No promise of another crate needs it: a reader can skip this one.
+// The quick way of certification, one pass for every layout: the check, the order of the keys and the hollow nodes, with W bytes a number and E entries a
+// node as constants. What passes it is certified, and of the rest nothing is known, so that the check and `certification` decide. No promise of another
+// crate needs it: a reader can skip this one.
 #![tactic(auto)]
 
-ghost use Rattle.std.specs.Prelude.{◌≡◌, true, false, ◌+◌, ◌*◌, ◌≤◌, ◌<◌, length};
-ghost use Rattle.format.specs.Layout.{layout32, Limits as GivenLimits, server, pointer, keys_from, head_size, leaf_size, inner_size};
-ghost use Rattle.format.specs.Refusal.{gives};
-ghost use Rattle.format.specs.Check.{counted};
-ghost use Rattle.format.specs.Certify.{certify};
-ghost use Rattle.ordered.specs.Order.{Rise, LeafKeys, ChildKeys, KeysBelow, NextKey};
+ghost use Rattle.std.specs.Prelude.{◌≡◌, ◌+◌, ◌-◌, ◌*◌, ◌≤◌, ◌<◌, length, IfSome};
+ghost use Rattle.format.specs.Layout.{server, keys_from, leaf_size, inner_size};
+ghost use Rattle.quick.specs.Sizes.{numbered, Sizes};
+ghost use Rattle.ordered.specs.Order.{key_in, Rise, NextKey, LeafKeys, ChildKeys, KeysBelow};
 
-use fields::primitive::{u32_at, u64_at};
-use format::{Common, Layout};
+use fields::primitive::u64_at;
+use format::Layout;
+use quick::{inner_of, number_at, place_of};
 
-// 2^32: the bits of an offset that leads back are less than this by the distance.
-const WRAP: usize = 0x1_0000_0000;
-
-// A child's entries, where the range starts after it, and the last key up to its end.
+// A child's entries with all below it, where the range starts after it, and the last key up to its end.
 #[derive(Clone, Copy)]
-pub enum Passed {
-    Child(usize, usize, u64),
-    No,
+pub struct Passed {
+    pub entries: usize,
+    pub next: usize,
+    pub last: u64,
 }
 
-// The entries of a node and of all below it, 0 where nothing is known, and the last key.
+// The entries of a node and of all below it, and the last key. 0 entries stand for None: an Option of the two is returned through memory, 4 % slower.
 #[derive(Clone, Copy)]
 pub struct Keys {
     pub entries: usize,
     pub last: u64,
 }
 
-// The last key after a slot.
-#[derive(Clone, Copy)]
-pub enum Next {
-    Key(u64),
-    No,
-}
-
-// Whether the first n keys of a node ascend, from above `last` on where `some` is 1. The loop's length is known, so that it is unrolled.
-fn rises(archive: &[u8], p: usize, n: usize, some: usize, last: u64) -> bool
-    requires { (p + head_size layout32 ≤ length archive.now) × (n ≤ 5) }
-    ensures { result ≡ true → Rise archive.now p n some last }
+// Reads key i of a node, if it is above the key before it.
+fn key_above(archive: &[u8], p: usize, i: usize, before: Option<u64>) -> Option<u64>
+    requires { p + keys_from + 8 * (i + 1) ≤ length archive.now }
+    ensures { IfSome result (λ key. (key ≡ key_in archive.now p i) × IfSome before (λ last. last < key)) }
 {
-    if some == 1 {
-        if u64_at(archive, p + Layout::KEYS) <= last {
-            return false;
+    let key = u64_at(archive, p + Layout::KEYS + 8 * i);
+    if let Some(last) = before {
+        if key <= last {
+            return None;
         }
     }
-    for i in 0..4 {
-        if i + 1 < n {
-            let key = u64_at(archive, p + Layout::KEYS + 8 * i);
-            if u64_at(archive, p + Layout::KEYS + 8 * (i + 1)) <= key {
-                return false;
-            }
-        }
-    }
-    true
+    Some(key)
 }
 
-// A leaf in its place, after the key `last` where `some` is 1.
-fn leaf_keys(archive: &[u8], p: usize, some: usize, last: u64) -> Passed
-    requires { p + leaf_size layout32 ≤ length archive.now }
-    ensures { LeafKeys layout32 archive.now p some last result }
+// Reads the last of the first n keys of a node, if they ascend, from above the key before them. With i from 0 on, each key is one load at every layout.
+fn last_key(archive: &[u8], p: usize, n: usize, before: Option<u64>) -> Option<u64>
+    requires { (p + keys_from + 8 * n ≤ length archive.now) × (0 < n) }
+    ensures { IfSome result (λ last. Rise archive.now p n before × (last ≡ key_in archive.now p (n - 1))) }
 {
-    let n = u32_at(archive, p + Common::NODE) as usize;
-    if n == 0 {
-        return Passed::No;
+    let mut last = key_above(archive, p, 0, before)?;
+    for i in 0..n - 1 {
+        last = key_above(archive, p, i + 1, Some(last))?;
     }
-    if n > Common::ENTRIES {
-        return Passed::No;
-    }
-    if rises(archive, p, n, some, last) {
-        return Passed::Child(n, p + Common::LEAF, u64_at(archive, p + 8 * n));
-    }
-    Passed::No
+    Some(last)
 }
 
-// The child that a field leads to, with all below it, after the key `last` where `some` is 1: absent, a leaf or an inner node in its place.
+// Passes a leaf in its place, after the key before it.
+fn leaf_keys<const W: usize, const E: usize>(
+    archive: &[u8],
+    p: usize,
+    before: Option<u64>,
+) -> Option<Passed>
+    requires { Sizes W E × (p + leaf_size (numbered W E) ≤ length archive.now) }
+    ensures { IfSome result (λ c. LeafKeys (numbered W E) archive.now p before c) }
+{
+    let after = p + (8 + 16 * E);
+    let entries = number_at::<W>(archive, after);
+    if entries == 0 {
+        return None;
+    }
+    if entries > E {
+        return None;
+    }
+    let last = last_key(archive, p, entries, before)?;
+    Some(Passed {
+        entries,
+        next: after + 8,
+        last,
+    })
+}
+
+// Passes the child that a field leads to, with all below it, after the key before it: absent, a leaf or an inner node in its place.
 #[cycle(child_keys_node_keys)]
-fn child_keys(
+fn child_keys<const W: usize, const E: usize>(
     archive: &[u8],
     start: usize,
     end: usize,
     field: usize,
     depth: usize,
-    some: usize,
-    last: u64,
-) -> Passed
-    requires { (start ≤ end) × (end ≤ field) × (field + pointer layout32 ≤ length archive.now) × (length archive.now ≤ server.longest)
+    before: Option<u64>,
+) -> Option<Passed>
+    requires { Sizes W E × (start ≤ end) × (end ≤ field) × (field + W ≤ length archive.now) × (length archive.now ≤ server.longest)
         × (0 < depth) }
-    ensures { ChildKeys layout32 archive.now depth start end field some last result }
+    ensures { IfSome result (λ c. ChildKeys (numbered W E) archive.now depth start end field before c) }
 {
-    let offset = u32_at(archive, field) as usize;
-    if offset == 1 {
-        if some == 1 {
-            return Passed::Child(0, start, last);
-        }
-        return Passed::No;
+    if number_at::<W>(archive, field) == 1 {
+        return Some(Passed {
+            entries: 0,
+            next: start,
+            last: before?,
+        });
     }
-    let up = field + offset;
-    if up < start + WRAP {
-        return Passed::No;
-    }
-    let p = up - WRAP;
-    if end < p + Common::LEAF {
-        return Passed::No;
-    }
-    if p % Layout::NODE_ALIGN != 0 {
-        return Passed::No;
-    }
+    let p = place_of::<W, E>(archive, start, field)?;
     if archive[p] == 0 {
-        return leaf_keys(archive, p, some, last);
+        if end < p + (16 + 16 * E) {
+            return None;
+        }
+        return leaf_keys::<W, E>(archive, p, before);
     }
     if archive[p] != 1 {
-        return Passed::No;
+        return None;
     }
-    if end < p + Common::INNER {
-        return Passed::No;
+    let next = p + inner_of::<W, E>();
+    if end < next {
+        return None;
     }
-    let below = node_keys(archive, start, p, depth - 1, some, last);
+    let below = node_keys::<W, E>(archive, start, p, depth - 1, before);
     if below.entries == 0 {
-        return Passed::No;
+        return None;
     }
-    Passed::Child(below.entries, p + Common::INNER, below.last)
+    Some(Passed {
+        entries: below.entries,
+        next,
+        last: below.last,
+    })
 }
 
-// The key of slot i of an inner node of e slots, where it is above the one before it; after the greater child no slot follows.
-pub fn next_key(archive: &[u8], e: usize, at: usize, i: usize, last: u64) -> Next
-    requires { at + keys_from + 8 * e ≤ length archive.now }
-    ensures { NextKey archive.now e at i last result }
+// Reads the key of slot i of an inner node, if it is above the one before it. No slot follows the greater child, and the key before stays the last.
+fn next_key<const E: usize>(archive: &[u8], at: usize, i: usize, last: u64) -> Option<u64>
+    requires { at + keys_from + 8 * E ≤ length archive.now }
+    ensures { IfSome result (λ key. NextKey archive.now E at i last key) }
 {
-    if i >= e {
-        return Next::Key(last);
+    if i >= E {
+        return Some(last);
     }
-    let key = u64_at(archive, at + Layout::KEYS + 8 * i);
-    if key <= last {
-        return Next::No;
-    }
-    Next::Key(key)
+    key_above(archive, at, i, Some(last))
 }
 
-// An inner node in its place with all below it, where `depth` nodes may be nested, after the key `before` where `some` is 1.
+// Passes an inner node in its place with all below it, when `depth` nodes may be nested, after the key before it.
 #[cycle(child_keys_node_keys)]
-fn node_keys(
+pub fn node_keys<const W: usize, const E: usize>(
     archive: &[u8],
     start: usize,
     at: usize,
     depth: usize,
-    some: usize,
-    before: u64,
+    before: Option<u64>,
 ) -> Keys
-    requires { (start ≤ at) × (at + inner_size layout32 ≤ length archive.now) × (length archive.now ≤ server.longest) }
-    ensures { 0 < result.entries → KeysBelow layout32 archive.now depth start at some before result.entries result.last }
+    requires { Sizes W E × (start ≤ at) × (at + inner_size (numbered W E) ≤ length archive.now) × (length archive.now ≤ server.longest) }
+    ensures { 0 < result.entries → KeysBelow (numbered W E) archive.now depth start at before result.entries result.last }
 {
     let none = Keys {
         entries: 0,
@@ -159,62 +154,27 @@ fn node_keys(
     if depth == 0 {
         return none;
     }
-    if u32_at(archive, at + Common::NODE) == 1 {
+    let first = at + (8 + 16 * E);
+    if number_at::<W>(archive, first) == 1 {
         return none;
     }
     let mut from = start;
-    let mut entries = Common::ENTRIES;
-    let mut known = some;
+    let mut entries = E;
     let mut last = before;
-    for i in 0..Common::CHILDREN {
-        let field = at + Common::NODE + Common::POINTER * i;
-        let child = child_keys(archive, from, at, field, depth, known, last);
-        let Passed::Child(n, next, key) = child else {
+    for i in 0..E + 1 {
+        let child = child_keys::<W, E>(archive, from, at, first + W * i, depth, last);
+        let Some(passed) = child else {
             return none;
         };
-        let Next::Key(greatest) = next_key(archive, Common::ENTRIES, at, i, key) else {
+        let Some(greatest) = next_key::<E>(archive, at, i, passed.last) else {
             return none;
         };
-        entries += n;
-        from = next;
-        known = 1;
-        last = greatest;
+        entries += passed.entries;
+        from = passed.next;
+        last = Some(greatest);
     }
-    Keys { entries, last }
-}
-
-// The recorded count of an archive at the common layout that is certified under limits of this depth, or 0.
-pub fn root_keys(archive: &[u8], depth: usize) -> usize
-    requires { (2 < depth) × (length archive.now ≤ server.longest) }
-    ensures { (M : GivenLimits) → M.depth ≡ depth → length archive.now ≤ M.longest
-        → 0 < result → counted (certify layout32 M archive.now) ≡ gives result }
-{
-    let length = archive.len();
-    if length < Common::RECORD {
-        return 0;
+    Keys {
+        entries,
+        last: last.unwrap(),
     }
-    let at = length - Common::RECORD;
-    if at % Common::RECORD_ALIGN != 0 {
-        return 0;
-    }
-    let up = at + u32_at(archive, at) as usize;
-    if up < WRAP {
-        return 0;
-    }
-    let p = up - WRAP;
-    if at < p + Common::INNER {
-        return 0;
-    }
-    if p % Layout::NODE_ALIGN != 0 {
-        return 0;
-    }
-    if archive[p] != 1 {
-        return 0;
-    }
-    let root = node_keys(archive, 0, p, depth - 3, 0, 0);
-    let count = u32_at(archive, at + Common::POINTER) as usize;
-    if root.entries != count {
-        return 0;
-    }
-    count
 }

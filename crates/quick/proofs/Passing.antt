@@ -1,31 +1,22 @@
 -- The nodes that the quick way passes, by their places, and an inner node's children, one after the other. Assumes nothing.
-use mathlib.Core.Path.{◌≡◌, refl, ap, ◌∙◌}
+use mathlib.Core.Path.{◌≡◌, refl}
 use mathlib.Core.List.{List}
 use Prim.Native.Nat.{ℕ, zero, suc, ◌+◌, ◌-◌, ◌%◌, ◌<◌, ◌≤◌}
-use native.Mathlib.Nat.{sub-zero, add-zero, zero-add, add_assoc}
+use native.Mathlib.Nat.{sub-zero, zero-add, add_assoc}
 use native.Mathlib.Numerals.{add-one}
 use native.Mathlib.Omega.{arith}
 use lib.ListN.{get_or}
-use borrow.Author.Tests.{eq-eqb, ne_eqb}
-use Rattle.format.specs.Layout.{Layout, layout32, pointer, leaf_size, inner_size}
+use borrow.Author.Tests.{eq-eqb}
+use Rattle.format.specs.Layout.{Layout, pointer, leaf_size, inner_size}
 use Rattle.format.specs.Bytes.{le_at}
-use Rattle.format.specs.RelPtr.{at, target, absent}
+use Rattle.format.specs.RelPtr.{absent}
 use Rattle.format.specs.Node.{inner, kind, child, leaf_count}
 use Rattle.format.specs.Readable.{LeadsTo}
 use Rattle.format.specs.NodeRelation.{ChildOk, gone, there, ChildrenOk, last, more, leaf_ok, inner_ok, Holds}
 use Rattle.format.proofs.Laws.Check.Complete.{complete}
 use Rattle.format.proofs.Laws.Read.Node.{kind-leaf}
-use Rattle.offsets.proofs.Offsets.{leads-behind}
 use Rattle.quick.specs.Quick.{Below, Root}
 use Rattle.format.proofs.Laws.Check.Bounds.{child-bytes, holds-bytes}
-
--- An offset of 4 bytes, x, that leads back from f to p.
-pub leads32 : (s : List ℕ) (f x : ℕ) {p : ℕ} → x ≡ le_at 4 s f → x < 0x1_0000_0000 → f < 0x8000_0000 → p + 0x1_0000_0000 ≡ f + x → LeadsTo layout32 s f p
-unfolding target absent
-leads32 s f x e l h g = record {
-  present = ne_eqb (le_at 4 s f) 1 (λ z. omega (arith, e, z));
-  leads = rw (← e) (leads-behind 31 f x l (omega arith) (omega arith) ∙ ap at (omega arith));
-}
 
 module _ (L : Layout) (s : List ℕ) where
   pub kind-inner : (p : ℕ) → get_or s p 0 ≡ 1 → kind L s p ≡ inner
@@ -101,9 +92,6 @@ module _ (L : Layout) (s : List ℕ) where
           let a = w.all in
           let g = w.few in
           record { low = b.1; few = omega (arith, b.0); under = w.under + n; all = omega arith; rest = more-rest; whole = more-whole }
-
-    pub absent-passed : {i from total : ℕ} → SoFar i from total → le_at (pointer L) s (child L p i) ≡ 1 → i ≤ L.entries → SoFar (i + 1) from total
-    absent-passed {total = total} w e h = rw (← add-zero total) (one-passed w (absent-child _ _ _ d e) h)
 
     pub all-passed : {i from total : ℕ} → SoFar i from total → L.entries < i → Below L s d start p total
     all-passed w h = record { under = w.under; children = w.whole h; all = w.all }

@@ -4,13 +4,11 @@ use Rattle.format.specs.Layout.{Layout}
 use Rattle.format.specs.Check.{accepted, check_node}
 use Rattle.format.specs.NodeRelation.{ChildOk, ChildrenOk, Holds}
 use Rattle.quick.specs.declared.Passed.{Passed}
-use Rattle.quick.specs.declared.Passed.TheVariants.{Entries, No}
 
 module _ (L : Layout) (s : List ℕ) where
   -- The field f in the range from start to end, where d nodes may be nested below it.
   abbrev pub Passes : ℕ → ℕ → ℕ → ℕ → Passed → Type 0
-  Passes d start end f (Entries n t) = ChildOk L s (Holds L s d) start end f t n
-  Passes d start end f No = f ≡ f
+  Passes d start end f c = ChildOk L s (Holds L s d) start end f c.next c.entries
 
   -- The children of the inner node at p, in the range from start on; n counts its own entries too.
   pub record Below (d start p n : ℕ) : Type 0 where

@@ -57,9 +57,8 @@ fn certify_checked(archive: &[u8], layout: Layout, limits: Limits) -> Result<usi
 pub fn certify(archive: &[u8], layout: Layout, limits: Limits) -> Result<usize, Refusal>
     ensures { answer_of result ≡ counted (certify (layout_of layout) (limits_of limits) archive.now) }
 {
-    let quick = quick_certify(archive, layout, limits);
-    if 0 < quick {
-        return Ok(quick);
+    if let Some(count) = quick_certify(archive, layout, limits) {
+        return Ok(count);
     }
     certify_checked(archive, layout, limits)
 }

@@ -24,9 +24,8 @@ fn root_entries(
         × (range.start.0 ≡ 0) × (range.end.0 ≡ field.0) × (0 < depth) }
     ensures { answer_of result ≡ counted (check_node (layout_of layout) archive.now (depth - 1) range.end.0 range.start.0 field.0) }
 {
-    let quick = quick_root(archive, layout, field.0, depth - 1);
-    if 0 < quick {
-        return Ok(quick);
+    if let Some(entries) = quick_root(archive, layout, field.0, depth - 1) {
+        return Ok(entries);
     }
     match enter_node(archive, layout, range, depth, field)? {
         Entered::Leaf(leaf) => Ok(leaf.entries),
