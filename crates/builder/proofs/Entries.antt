@@ -67,9 +67,6 @@ module _ (L : Layout) (ks vs : List ℕ) (h : ℕ) (N : Named L (length ks)) (sa
       let e : height L (suc n) - 1 ≡ F.above = omega (arith, F.height-is) in
       omega (arith, ap (upper L) e, F.last-is)
 
-  pub first_fits : (h ≤ q.first) × (q.first + record_size L ≤ q.end)
-  first_fits = (omega (arith, P.first), omega (arith, parts))
-
   abbrev place : Place
   place = record { next = 0; last = q.last; at = record { 0 = q.first } }
 

@@ -1,6 +1,6 @@
 -- The levels of n entries, and the nodes on them. Assumes nothing.
 use Prim.Native.Nat.{ℕ, zero, suc, ◌+◌, ◌-◌, ◌*◌, ◌≤◌, ◌<◌}
-use mathlib.Core.Path.{◌≡◌, refl, ap, ◌∙◌}
+use mathlib.Core.Path.{◌≡◌, ap, ◌∙◌}
 use native.Mathlib.Omega.{arith}
 use native.Mathlib.Decide.{dec_lt}
 use native.Mathlib.Nat.{mul-le-mul_left, mul-le-mul_right, mul-le-mul, suc_inj}
@@ -50,9 +50,6 @@ module _ (L : Layout) (n : ℕ) (N : Named L n) where
       omega (arith, e, F.height-is)
 
   -- ---- the loop
-
-  pub climbing-start : 0 < n → Climbing L n (record { above = 0; power = 1; over = 0; higher = 0 })
-  climbing-start p = record { power = refl; low = p; levels = omega arith; over = λ k e. absurd (omega (arith, e)); inners = refl }
 
   power-more : (e u p : ℕ) → p ≡ suc u → p * (e + 1) ≡ suc (suc e * u + e)
   power-more e u p h = ap (λ (x : ℕ). x * (e + 1)) h ∙ omega arith

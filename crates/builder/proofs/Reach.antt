@@ -2,38 +2,19 @@
 use Prim.Native.Nat.{ℕ, zero, suc, ◌+◌, ◌-◌, ◌*◌, ◌/◌, ◌≤◌, ◌<◌, min}
 use mathlib.Core.Path.{◌≡◌, refl, sym, ap, ap₂, ◌∙◌}
 use native.Mathlib.Omega.{arith}
-use native.Mathlib.Nat.{mul-le-mul, mul-le-mul_right, mul-div_cancel_left}
+use native.Mathlib.Nat.{mul-le-mul_right, mul-div_cancel_left}
 use Rattle.format.specs.Layout.{Layout, head_size, leaf_size, inner_size}
 use Rattle.format.specs.Build.{last_level}
-use Rattle.format.specs.Weight.{upper, weight, first_own, reach, inners_over, up, size_by}
+use Rattle.format.specs.Weight.{upper, weight, first_own, reach, inners_over, size_by}
 use Rattle.format.proofs.Laws.Build.Filling.{full}
 use Rattle.format.proofs.Laws.Build.Near.{inner_room}
-use Rattle.format.proofs.Laws.Build.Sizes.{up-most, upper-inners, weight-size}
+use Rattle.format.proofs.Laws.Build.Sizes.{upper-inners, weight-size}
 use Rattle.format.proofs.Laws.Build.Farthest.{by-weight}
 use Rattle.builder.specs.declared.size.Levels.{Levels}
 use Rattle.builder.specs.Size.{Named, nodes_of, reach_of, Leveled}
 use Rattle.builder.proofs.Levels.{Fits, fits, over-is}
 
 -- ---- the formula
-
--- The number of children times the entries of a node.
-pub below-few : (e : ℕ) → 3 ≤ e → e ≤ 15 → (0 < e * (e + 1)) × (e * (e + 1) ≤ 240)
-below-few e some few =
-    let g = mul-le-mul_right {m = 1} {n = e} (e + 1) (omega arith) in
-    (omega (arith, g), mul-le-mul {n₁ = e} {m₁ = e + 1} {n₂ = 15} {m₂ = 16} few (omega arith))
-
-module _ (e p m t i l : ℕ) (et : t ≡ min m (e * (e + 1) * p)) (ei : i ≡ up t (e * (e + 1))) (el : l ≡ up t e) where
-  -- No more inner nodes than stand over the last level, and no more leaves than entries.
-  pub parts : 3 ≤ e → e ≤ 15 → (i ≤ p) × (l ≤ m)
-  parts some few =
-      let g = mul-le-mul_right {m = 1} {n = e} t (omega arith) in (
-        omega (arith, ei, up-most t (e * (e + 1)) p (below-few e some few).0 (omega (arith, et))),
-        omega (arith, el, et, up-most t e t (omega arith) (omega (arith, g))),
-      )
-
-  -- The formula, as the code computes it.
-  pub size-by : (A B a b q : ℕ) → a ≡ A → b ≡ B → a * (l + (p - i)) + b * (i + q) ≡ size_by A B e p q (min m (e * suc e * p))
-  size-by A B a b q ea eb = let f : suc e ≡ e + 1 = omega arith in rw (ea, eb, ei, el, et, f)
 
 leaf-weight : (L : Layout) (m : ℕ) → 0 < m → weight L 0 m ≡ leaf_size L
 unfolding weight
@@ -108,9 +89,6 @@ module _ (L : Layout) (n : ℕ) (N : Named L n) (p : 0 < n) {v : Levels} (K : Le
     -- The root is an inner node.
     pub inner-in : inner_size L ≤ nodes_of L n
     inner-in = omega (arith, by_level e, by-weight L k (last_level L n) F.some-last)
-
-  pub reach-none : v.above ≡ 0 → 0 ≡ reach_of L n
-  reach-none e = sym (by-reach e)
 
   pub reach-one : v.above ≡ 1 → nodes_of L n - inner_size L + head_size L ≡ reach_of L n
   reach-one e =

@@ -2,9 +2,8 @@
 use Rattle.std.specs.Prelude.{Option, Some, None}
 use mathlib.Core.Path.{◌≡◌, refl, sym, ap, ◌∙◌}
 use mathlib.Core.List.{List}
-use Prim.Native.Nat.{ℕ, suc, ◌+◌, ◌-◌, ◌*◌, ◌/◌, ◌%◌, ◌^◌, ◌<◌, ◌≤◌}
+use Prim.Native.Nat.{ℕ, suc, ◌+◌, ◌-◌, ◌/◌, ◌%◌, ◌^◌, ◌<◌, ◌≤◌}
 use native.Mathlib.Decide.{dec_lt}
-use native.Mathlib.Nat.{mul-suc, mul-le-mul_left}
 use native.Mathlib.Omega.{arith}
 use lib.Dec.{lit≤}
 use lib.IntN.{ℤ, pos, negsuc}
@@ -100,10 +99,3 @@ lesser-step L out ss f e j v w d el h ew ev eo g =
     let c : j + 1 ≡ suc j = omega arith in
     rw (c, ew, eo)
     (sym (put_then out f (pointer L) (le_bytes (pointer L) v) _ (length-le_bytes _ v)) ∙ rw (b, drop-cons ss j d (omega arith), ← ev) at g)
-
-pub lessers-done : (L : Layout) (out : List ℕ) (cs : List (Option Position)) (f e j : ℕ) {r : List ℕ} → e ≤ j → put out f (lesser_bytes L f (e - j) cs) ≡ r → out ≡ r
-lessers-done L out cs f e j h g = let b : e - j ≡ 0 = omega arith in rw b at g
-
--- There is room for the field.
-pub field_room : (L : Layout) (e j : ℕ) → j < e → pointer L * j + pointer L ≤ pointer L * e
-field_room L e j h = rw (← mul-suc) (mul-le-mul_left (pointer L) h)

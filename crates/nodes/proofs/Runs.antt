@@ -2,7 +2,7 @@
 use mathlib.Core.Path.{◌≡◌, refl, sym, ap, ◌∙◌}
 use mathlib.Core.List.{List, [], ◌∷◌, ◌++◌, append_assoc}
 use Prim.Native.Nat.{ℕ, zero, suc, ◌+◌, ◌-◌, ◌*◌, ◌<◌, ◌≤◌}
-use native.Mathlib.Nat.{add-zero, sub-zero}
+use native.Mathlib.Nat.{sub-zero}
 use native.Mathlib.Omega.{arith}
 use lib.ListN.{length, get_or, set, replicate, take, drop, length-map, length-replicate, length-take, length-drop}
 use lib.Seq.{drop-cons, set_comm}
@@ -72,12 +72,6 @@ length-words n l = length-column (λ (x : ℕ). x) n l
 -- The words from the j-th on to the k-th of two lists, written to two columns of e places.
 abbrev pub rest : (at e k : ℕ) (ks vs out : List ℕ) (j : ℕ) → List ℕ
 rest at e k ks vs out j = put (put out (at + 8 * j) (words (k - j) (drop j ks))) (at + 8 * e + 8 * j) (words (k - j) (drop j vs))
-
-pub rest-done : (at e k : ℕ) (ks vs out out₀ : List ℕ) (j : ℕ) → k ≤ j → rest at e k ks vs out j ≡ rest at e k ks vs out₀ 0
-    → out ≡ put (put out₀ at (words k ks)) (at + 8 * e) (words k vs)
-rest-done at e k ks vs out out₀ j h g =
-    let none : k - j ≡ 0 = omega arith in
-    simp (add-zero, sub-zero) at (rw none at g)
 
 -- A word is written to each column: what is left to write is what was left.
 pub rest-step : (at e k : ℕ) (ks vs out : List ℕ) (j x y : ℕ) {o₁ o₂ r : List ℕ} → j < k → k ≤ e → k ≤ length ks → k ≤ length vs

@@ -3,7 +3,7 @@ use mathlib.Core.Path.{◌≡◌, refl, sym, ap, ◌∙◌}
 use mathlib.Core.Bool.{true, false}
 use mathlib.Core.List.{List, [], ◌∷◌, ◌++◌, append_assoc, append-nil}
 use Prim.Native.Nat.{ℕ, zero, suc, ◌+◌, ◌-◌, ◌%◌, ◌<◌, ◌≤◌}
-use native.Mathlib.Nat.{sub-zero, add-zero, zero-add}
+use native.Mathlib.Nat.{add-zero, zero-add}
 use native.Mathlib.Numerals.{add-one}
 use native.Mathlib.Omega.{arith}
 use lib.ListN.{get_or, length}
@@ -22,7 +22,7 @@ use Rattle.format.specs.Readable.{LeadsTo}
 use Rattle.format.specs.NodeRelation.{ChildOk, Holds}
 use Rattle.format.proofs.Laws.Read.Node.{kind-leaf}
 use Rattle.quick.specs.Quick.{Root}
-use Rattle.quick.proofs.Passing.{kind-inner, absent-child, leaf-child, inner-child, SoFar, none_passed, one-passed, all-passed, root-passes}
+use Rattle.quick.proofs.Passing.{kind-inner, absent-child, leaf-child, inner-child, SoFar, one-passed, all-passed, root-passes}
 use Rattle.ordered.specs.Order.{ascends_after, Leads, key_in, Rise, LeafKeys, KeysPass, ChildKeys, KeysBelow}
 use Rattle.ordered.specs.declared.Passed.{Passed}
 
@@ -136,15 +136,6 @@ module _ (L : Layout) (s : List ℕ) where
       pub ordered : L.entries < i → IsSomeAnd last (Leads before all-keys)
       pub any : i ≤ L.entries → any_children L s (hollow_at L s d) p L.entries 0 ≡ any_children L s (hollow_at L s d) p (L.entries - i) i
       pub solid : L.entries < i → any_children L s (hollow_at L s d) p L.entries 0 ≡ false
-
-    pub no_keys : start ≤ p → KeysSoFar 0 start L.entries before
-    no_keys h = record {
-      passed = none_passed L s d p start h;
-      order = λ l rest. rw (sub-zero L.entries);
-      ordered = λ l. absurd (omega arith);
-      any = λ l. rw (sub-zero L.entries);
-      solid = λ l. absurd (omega arith);
-    }
 
     module _ {i from total n t k₁ k₂ : ℕ} {last : Option ℕ} (w : KeysSoFar i from total last) (c : KeysPass L s d from p (child L p i) last n t k₁)
         (slot_next : (i < L.entries → (k₂ ≡ key_in s p i) × (k₁ < k₂)) × (L.entries ≤ i → k₂ ≡ k₁)) (h : i ≤ L.entries) where

@@ -3,11 +3,10 @@ use Prim.Native.Nat.{ℕ, ◌<◌}
 use mathlib.Core.Path.{◌≡◌, sym, ap, subst, ◌∙◌}
 use native.Mathlib.Omega.{arith}
 use borrow.Author.Rules.{sfits_of}
-use lib.Dec.{T, lit<}
+use lib.Dec.{lit<}
 use lib.IntN.{ℤ, nat_abs, ◌+ℤ◌, ◌-ℤ◌, pos}
-use lib.Signed.{non_neg}
 use mir.Syntax.{w8, w64}
-use mir.Val.{Fits, SFits, to_z, of_z}
+use mir.Val.{SFits, to_z, of_z}
 use mir.Facts.{to_z_pos, to_z-of_z}
 use Rattle.format.specs.declared.Packing.TheVariants.{Plus128}
 use Rattle.format.specs.Key.{bits_of, degrees_of}
@@ -28,9 +27,6 @@ module _ {z : ℤ} (f : SFits w8 z) where
 
   wide_is : to_z w64 (of_z w64 sum) ≡ pos (bits_of Plus128 z)
   wide_is = to_z-of_z sum_fits ∙ sum_is
-
-  pub byte_fits : T (non_neg (to_z w64 (of_z w64 sum))) × Fits w8 (nat_abs (to_z w64 (of_z w64 sum)))
-  byte_fits = subst (λ (y : ℤ). T (non_neg y) × Fits w8 (nat_abs y)) (sym wide_is) (tt, record { fits = bits-lt Plus128 z f.sfits })
 
   pub byte-is : nat_abs (to_z w64 (of_z w64 sum)) ≡ bits_of Plus128 z
   byte-is = ap nat_abs wide_is

@@ -63,9 +63,6 @@ module _ (L : Layout) (s : List ℕ) where
     slots-all : slots L s p (n - 0) 0 ≡ slots L s p m 0
     slots-all = let z : n - 0 ≡ m = omega arith in rw z
 
-    pub slots-ascend : Ascending (slots L s p m 0) → Ascending (slots L s p (n - 0) 0)
-    slots-ascend a = rw slots-all a
-
     pub slots-run : (least greatest : ℕ) (o : Out) → ranged least greatest (slots L s p (n - 0) 0) o ≡ ranged least greatest (slots L s p m 0) o
     slots-run least greatest o = rw slots-all
 
