@@ -5,7 +5,7 @@ ghost use Rattle.format.specs.Layout.{layout_of, leaf_size};
 ghost use Rattle.serialize.specs.Wrote.{most, child_there, after, CanWrite, WroteLeaf, WroteTree};
 
 use crate::given::Given;
-use format::Position;
+use format::{Layout, Position};
 use nodes::inline_vec::{ChildPos, OpenInner, Slot};
 use nodes::node::{close_inner, close_leaf};
 
@@ -95,12 +95,13 @@ fn node_over(out: &mut [u8], given: Given<'_>, h: usize, here: &mut Place) -> Op
     ensures { WroteTree given.entry h here.old out.old result here.new out.new }
 {
     let entries = given.layout.entries;
-    let mut open = OpenInner::EMPTY;
+    let mut slots = [Slot::EMPTY; Layout::MOST];
+    let mut open = OpenInner::new(&mut slots);
     let mut p = *here;
-    for i in 0..entries {
+    for _ in 0..entries {
         let lesser = serialize_from_ordered_iter(out, given, h - 1, &mut p);
         let place = p.next as u32;
-        open = open.take(i, Slot { place, lesser });
+        open = open.take(Slot { place, lesser });
         p.next += 1;
     }
     let greater = serialize_from_ordered_iter(out, given, h - 1, &mut p);

@@ -1,5 +1,5 @@
 -- The levels fall at each call from an inner node.
-use Rattle.std.proofs.Common.{◌+◌, ◌-◌, ◌*◌}
+use Rattle.std.proofs.Common.{◌≡◌, ◌+◌, ◌-◌, ◌*◌}
 use Rattle.format.specs.Layout.{layout_of}
 use Rattle.serialize.proofs.Taking.{Taking}
 use Rattle.serialize.proofs.map.+serialize_from_ordered_iter_inner.Given as goal
@@ -13,6 +13,7 @@ decreases-inner l = 3 * l.h + 1
 abbrev pub decreases-node_over : goal.decreases-node_over
 decreases-node_over l = 3 * l.h
 
-abbrev pub invariant-node_over-loop-i : goal.invariant-node_over-loop-i
-invariant-node_over-loop-i l =
-    Taking (layout_of l.given.layout) l.given.keys.now l.given.values.now (l.h - 1) l.fn.out l.fn.here l.out l.open.slots l.p l.i
+abbrev pub invariant-node_over-loop : goal.invariant-node_over-loop
+invariant-node_over-loop l =
+    (l.open.taken ≡ l.counter)
+    × Taking (layout_of l.given.layout) l.given.keys.now l.given.values.now (l.h - 1) l.fn.out l.fn.here l.out l.open.slots.now l.p l.counter
