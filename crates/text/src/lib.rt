@@ -1,9 +1,12 @@
-// Text that is put together in a room of its own: bytes and decimal numbers, one behind the other.
+// Text that is put together in a lent room or in one of its own: bytes and decimal numbers, one behind the other.
 #![tactic(auto)]
 
 ghost use Rattle.std.specs.Prelude.{◌≡◌, [], ◌++◌, ◌+◌, ◌≤◌, length};
 ghost use Rattle.text.specs.Decimal.{decimal};
 
+mod room;
+
+pub use crate::room::{put, put_decimal};
 use std::marker::Model;
 
 // A text of at most N bytes.
@@ -40,19 +43,15 @@ impl<const N: usize> Text<N> {
         requires { length self.old + length bytes.now ≤ N }
         ensures { self.new ≡ self.old ++ bytes.now }
     {
-        let end = self.length + bytes.len();
-        let room = &mut self.bytes[..];
-        room[self.length..end].copy_from_slice(bytes);
-        self.length = end;
+        self.length = put(&mut self.bytes, self.length, bytes);
     }
 
     // Puts the digits of a number behind the text.
-    #[tactic(auto, using(crate::proofs::Texts::decimal_is))]
     pub fn push_decimal(&mut self, number: u64)
         requires { length self.old + 20 ≤ N }
         ensures { self.new ≡ self.old ++ decimal number }
     {
-        self.push(itoa::Buffer::new().format(number).as_bytes());
+        self.length = put_decimal(&mut self.bytes, self.length, number);
     }
 
     // Lends the bytes of the text.
