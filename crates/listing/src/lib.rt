@@ -151,8 +151,8 @@ pub fn list<R: Read, W: Write>(input: &mut R, output: &mut W) -> io::Result<()>
         (λ bytes. Appends (W.contents output.old) (W.contents output.new) (printed bytes))) }
 {
     let mut buffer = [0u8; LONGEST_INPUT + 1];
-    let read = read_full(input, &mut buffer)?;
     let mut text: Text<LONGEST_TEXT> = Text::new();
+    let read = read_full(input, &mut buffer)?;
     put_text(&mut text, &buffer[..read]);
     output.write_all(text.as_bytes())
 }
