@@ -124,8 +124,9 @@ pub fn check_inner_node(
     Ok(Subtree { entries, end })
 }
 
-// The node that a field leads to, with the depth that is left before it is entered.
+// The node that a field leads to, with the depth that is left before it is entered. It is inlined so that a leaf takes no call.
 #[cycle(check_inner_node_check_node_rel_ptr)]
+#[inline(always)]
 fn check_node_rel_ptr(
     archive: &[u8],
     layout: Layout,

@@ -12,7 +12,7 @@ use subtrees::archive::{SubtreeRange, in_subtree, push_subtree_range};
 use subtrees::node::{Entered, check_inner_node, enter_node};
 
 // The entries of the node that the record's field leads to and of all below it. The quick way tells no refusal: where it does not know, the nodes are
-// checked one by one. `check_inner_node` has one caller beside this one, of which it becomes a part in the compiled program: a leaf takes no call.
+// checked one by one.
 fn root_entries(
     archive: &[u8],
     layout: Layout,
