@@ -54,4 +54,4 @@ node_keys-unwrap-requires g t c = last-there _ _ _ _ _ _ c.loop-i.invariant.4 (o
 pub node_keys-returns : goal.node_keys-returns
 node_keys-returns g t c =
     λ some. below-keys _ _ _ _ _ _ c.loop-i.invariant.4 (omega arith) c.unwrap.ensures
-    (first-there _ _ _ _ c.number_at.ensures.0 c.if-number_at-eq1.false)
+    (first-there _ _ _ _ c.number_at.ensures.0 (omega arith))

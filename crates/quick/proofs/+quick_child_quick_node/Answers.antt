@@ -21,7 +21,7 @@ quick_child-returns-then-archive-p-eq0 g t c =
 pub quick_child-returns : goal.quick_child-returns
 quick_child-returns g t c =
     let at = c.in_ok-p.ensures in
-    inner-child _ _ _ _ _ at.0 at.1 at.3 c.if-archive-p-ne1.false
+    inner-child _ _ _ _ _ at.0 at.1 at.3 (omega arith)
     (ap (λ (n : ℕ). c.in_ok-p.p + n) c.inner_of.ensures.0) c.if-end-next.false c.args.depth c.requires.5 c.in_ok-entries.ensures
 
 pub quick_node-overflow_add-total : goal.quick_node-overflow_add-total

@@ -28,13 +28,17 @@ pub returns-in-Err : goal.returns-in-Err
 returns-in-Err c = search leaf-miss
 
 pub slot-requires-in-Ok-seek_slot : goal.slot-requires-in-Ok-seek_slot
-slot-requires-in-Ok-seek_slot c = (search rules, omega arith, search seek-slot)
+slot-requires-in-Ok-seek_slot c =
+    let within = seek-slot _ _ _ _ _ _ c.seek_slot-in-loop-n.ensures c.in-Ok-seek_slot.is in
+    (search rules, omega arith, omega (arith, within))
 
 pub returns-in-Ok-seek_slot : goal.returns-in-Ok-seek_slot
 returns-in-Ok-seek_slot c = search inner-hit
 
 pub child_at-requires : goal.child_at-requires
-child_at-requires c = (search rules, search as-inner, search seek-child)
+child_at-requires c =
+    let within = seek-child _ _ _ _ _ _ c.seek_slot-in-loop-n.ensures c.in-Err-seek_slot.is in
+    (search rules, search as-inner, omega (arith, within))
 
 pub returns-in_err-current-in-Err-seek_slot : goal.returns-in_err-current-in-Err-seek_slot
 returns-in_err-current-in-Err-seek_slot c =
@@ -46,7 +50,8 @@ returns-in_err-current-in-Err-seek_slot c =
 down : (c : goal.In_ok-current-in-Err-seek_slot)
     → let q = c.in_ok-current-in-Err-seek_slot.current.0 in (q < c.loop-n.current.0) × Node (layout_of c.args.layout) server c.args.archive.now q
 down c =
-    child-falls _ _ _ _ refl c.loop-n.invariant.1 c.if-archive-p-eq0.false (search seek-child) c.child_at.ensures c.in_ok-current-in-Err-seek_slot.was
+    let within = seek-child _ _ _ _ _ _ c.seek_slot-in-loop-n.ensures c.in-Err-seek_slot.is in
+    child-falls _ _ _ _ refl c.loop-n.invariant.1 c.if-archive-p-eq0.false (omega (arith, within)) c.child_at.ensures c.in_ok-current-in-Err-seek_slot.was
 
 pub loop-n-smaller : goal.loop-n-smaller
 loop-n-smaller c = (down c).0

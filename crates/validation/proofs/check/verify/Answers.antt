@@ -1,4 +1,5 @@
 -- The answer is the definition's, by the record's count and by what the nodes give.
+use Rattle.std.proofs.Common.{arith}
 use Rattle.std.proofs.lemmas.Result.{err_from_is_err_and}
 use Rattle.validation.proofs.Record.{root_none, root-refused, root-differs, root-agrees}
 use Rattle.validation.proofs.check.verify.Goals as goal
@@ -24,4 +25,4 @@ pub returns : goal.returns
 returns c =
     let count = rw c.pointer.ensures.0 at c.uint_at-count.ensures.0 in
     λ M depth.
-    root-agrees _ M _ c.requires.3 count c.if-count-eq0.false depth c.requires.4 c.requires.5 c.in_ok-entries.ensures c.if-entries-count.false
+    root-agrees _ M _ c.requires.3 count c.if-count-eq0.false depth c.requires.4 c.requires.5 c.in_ok-entries.ensures (omega arith)
