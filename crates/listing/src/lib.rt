@@ -145,7 +145,7 @@ pub fn read_full<R: Read>(input: &mut R, buffer: &mut [u8]) -> io::Result<usize>
 }
 
 // Reads an input and writes its text. One byte more than the longest input is read, since the text depends on no byte behind that one
-// (specs/Laws.antt).
+// (specs/Laws.antt). The text is made before the input is read: a local that is made behind a `?` is cleared twice.
 pub fn list<R: Read, W: Write>(input: &mut R, output: &mut W) -> io::Result<()>
     ensures { OnOk result (IfSome (R.remaining input.old)
         (λ bytes. Appends (W.contents output.old) (W.contents output.new) (printed bytes))) }

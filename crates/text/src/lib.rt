@@ -1,4 +1,4 @@
-// Text that is put together in a lent room or in one of its own: bytes and decimal numbers, one behind the other.
+// Text that is put together in a lent buffer or in a room of its own: bytes and decimal numbers, one behind the other.
 #![tactic(auto)]
 
 ghost use Rattle.std.specs.Prelude.{◌≡◌, [], ◌++◌, ◌+◌, ◌≤◌, length};
