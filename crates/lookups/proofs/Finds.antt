@@ -82,6 +82,9 @@ module _ (s : List ℕ) (p key : ℕ) where
   pub seek-child : (n i : ℕ) (r : Result ℕ ℕ) → r ≡ seek_at s p key n 0 → r ≡ Err i → i ≤ n
   seek-child n i r e k = rw (sym e ∙ k) at (seek-within n)
 
+  pub seek-all : (n e : ℕ) (r : Result ℕ ℕ) → r ≡ seek_at s p key n 0 → n ≡ e → r ≡ seek_at s p key e 0
+  seek-all n e r q w = q ∙ ap (λ k. seek_at s p key k 0) w
+
 -- ---- the lookup in a node, by the scan
 
 module _ (L : Layout) (s : List ℕ) where

@@ -5,7 +5,7 @@ use native.Mathlib.Omega.{arith}
 use Rattle.format.specs.Layout.{layout_of, server}
 use Rattle.format.specs.Readable.{Node}
 use Rattle.format.proofs.Laws.Read.Node.{node-room, as-leaf, as-inner, child-falls}
-use Rattle.lookups.proofs.Finds.{seek-slot, seek-child, leaf-count, leaf-slot, leaf-hit, leaf-miss, inner-hit, inner-miss, inner-down}
+use Rattle.lookups.proofs.Finds.{seek-slot, seek-child, seek-all, leaf-count, leaf-slot, leaf-hit, leaf-miss, inner-hit, inner-miss, inner-down}
 use borrow.Author.Rules.{rules}
 use Rattle.lookups.proofs.map.search.Goals as goal
 
@@ -33,7 +33,10 @@ slot-requires-in-Ok-seek_slot c =
     (search rules, omega arith, omega (arith, within))
 
 pub returns-in-Ok-seek_slot : goal.returns-in-Ok-seek_slot
-returns-in-Ok-seek_slot c = search inner-hit
+returns-in-Ok-seek_slot c =
+    inner-hit _ server _ _ _ _ _ c.loop-n.invariant.1 c.loop-n.invariant.2 c.if-archive-p-eq0.false
+    (seek-all _ _ _ _ c.args.layout.entries _ c.seek_slot-in-loop-n.ensures (omega arith)) _ _
+    c.in-Ok-seek_slot.is c.slot-in-Ok-seek_slot.ensures
 
 pub child_at-requires : goal.child_at-requires
 child_at-requires c =
@@ -43,7 +46,8 @@ child_at-requires c =
 pub returns-in_err-current-in-Err-seek_slot : goal.returns-in_err-current-in-Err-seek_slot
 returns-in_err-current-in-Err-seek_slot c =
     c.from_residual.ensures
-    ∙ inner-miss _ server _ _ _ _ _ c.loop-n.invariant.1 c.loop-n.invariant.2 c.if-archive-p-eq0.false c.seek_slot-in-loop-n.ensures _ _
+    ∙ inner-miss _ server _ _ _ _ _ c.loop-n.invariant.1 c.loop-n.invariant.2 c.if-archive-p-eq0.false
+    (seek-all _ _ _ _ c.args.layout.entries _ c.seek_slot-in-loop-n.ensures (omega arith)) _ _
     c.in-Err-seek_slot.is c.child_at.ensures c.in_err-current-in-Err-seek_slot.was
 
 -- The child that the loop goes on with lies lower, and is accepted.
@@ -60,6 +64,7 @@ pub loop-n-preserved : goal.loop-n-preserved
 loop-n-preserved c = let d = (down c).1 in (
   node-room _ _ _ d,
   d,
-  inner-down _ server _ _ _ _ _ c.loop-n.invariant.1 c.loop-n.invariant.2 c.if-archive-p-eq0.false c.seek_slot-in-loop-n.ensures _ _ _
+  inner-down _ server _ _ _ _ _ c.loop-n.invariant.1 c.loop-n.invariant.2 c.if-archive-p-eq0.false
+      (seek-all _ _ _ _ c.args.layout.entries _ c.seek_slot-in-loop-n.ensures (omega arith)) _ _ _
       c.in-Err-seek_slot.is c.child_at.ensures c.in_ok-current-in-Err-seek_slot.was,
 )
